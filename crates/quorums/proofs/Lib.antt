@@ -1,0 +1,5 @@
+pub mod Sums
+pub mod Differences
+pub mod Weights
+pub mod Meeting
+pub mod Rule

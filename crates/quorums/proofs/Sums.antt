@@ -1,0 +1,166 @@
+-- Laws of the sums and tests over the numbers below n.
+use Prim.Native.Nat.{ℕ, zero, suc, _+_, _*_, _≤_, _<_}
+use native.Mathlib.Nat.{le-refl, le-of-suc-le-suc, eq-or-lt-of-le, zero-mul, suc-mul, one-mul, add-mul, add-zero, add-suc}
+use native.Mathlib.Numerals.{add-one}
+use native.Mathlib.Omega.{arith}
+use mathlib.Core.Path.{_≡_, refl, sym, ap, _∙_}
+use mathlib.Core.Logic.{_⊎_, ⊎-elim}
+use mathlib.Core.Bool.{Bool, true, false, cond}
+use Rattle.quorums.specs.Sum.{sum, sumIn, size, all}
+
+-- a number below n + 1 is n, or is below n
+pub below-suc : {i n : ℕ} → i < suc n → (i ≡ n) ⊎ (i < n)
+below-suc l = eq-or-lt-of-le (le-of-suc-le-suc l)
+
+-- one more term, as a definition and as a loop count it
+pub sum-suc : (n : ℕ) (f : ℕ → ℕ) → sum (suc n) f ≡ sum n f + f n
+unfolding sum
+sum-suc n f = refl
+
+pub sum-next : (n : ℕ) (f : ℕ → ℕ) → sum (n + 1) f ≡ sum n f + f n
+sum-next n f = rw add-one (sum-suc n f)
+
+-- terms that agree have one sum, and smaller ones a smaller one
+pub sum-same : (n : ℕ) (f g : ℕ → ℕ) → ((i : ℕ) → i < n → f i ≡ g i) → sum n f ≡ sum n g
+unfolding sum
+sum-same zero f g e = refl
+sum-same (suc n) f g e = omega (arith, sum-same n f g (λ i l. e i (omega arith)), e n (le-refl (suc n)))
+
+pub sum-le : (n : ℕ) (f g : ℕ → ℕ) → ((i : ℕ) → i < n → f i ≤ g i) → sum n f ≤ sum n g
+unfolding sum
+sum-le zero f g h = le-refl 0
+sum-le (suc n) f g h = omega (arith, sum-le n f g (λ i l. h i (omega arith)), h n (le-refl (suc n)))
+
+pub sum-add : (n : ℕ) (f g : ℕ → ℕ) → sum n (λ i. f i + g i) ≡ sum n f + sum n g
+unfolding sum
+sum-add zero f g = refl
+sum-add (suc n) f g = omega (arith, sum-add n f g)
+
+pub sum-zero : (n : ℕ) (f : ℕ → ℕ) → ((i : ℕ) → i < n → f i ≡ 0) → sum n f ≡ 0
+unfolding sum
+sum-zero zero f e = refl
+sum-zero (suc n) f e = omega (arith, sum-zero n f (λ i l. e i (omega arith)), e n (le-refl (suc n)))
+
+pub sum-const : (n k : ℕ) → sum n (λ i. k) ≡ n * k
+unfolding sum
+sum-const zero k = sym (zero-mul k)
+sum-const (suc n) k = omega (arith, sum-const n k, suc-mul n k)
+
+-- each term is bounded by the sum
+pub sum-term : (n : ℕ) (f : ℕ → ℕ) (i : ℕ) → i < n → f i ≤ sum n f
+unfolding sum
+sum-term zero f i l = absurd (omega arith)
+sum-term (suc n) f i l =
+    ⊎-elim (λ (e : i ≡ n). rw e (omega arith)) (λ (h : i < n). omega (arith, sum-term n f i h)) (below-suc l)
+
+-- the first term apart
+pub sum-front : (n : ℕ) (f : ℕ → ℕ) → sum (suc n) f ≡ f 0 + sum n (λ i. f (suc i))
+unfolding sum
+sum-front zero f = omega arith
+sum-front (suc n) f = omega (arith, sum-front n f)
+
+-- terms of 0 past m do not count
+pub sum-extend : (m k : ℕ) (f : ℕ → ℕ) → ((i : ℕ) → m ≤ i → f i ≡ 0) → sum (m + k) f ≡ sum m f
+unfolding sum
+sum-extend m zero f e = rw add-zero
+sum-extend m (suc k) f e = rw add-suc (omega (arith, sum-extend m k f e, e (m + k) (omega arith)))
+
+-- the order of two sums
+pub sum-swap : (n m : ℕ) (f : ℕ → ℕ → ℕ) → sum n (λ i. sum m (λ j. f i j)) ≡ sum m (λ j. sum n (λ i. f i j))
+unfolding sum
+sum-swap zero m f = sym (sum-zero m (λ j. 0) (λ i l. refl))
+sum-swap (suc n) m f = omega (arith, sum-swap n m f, sum-add m (λ j. sum n (λ i. f i j)) (λ j. f n j))
+
+-- ---- sums over a set
+
+pub sumIn-suc : (n : ℕ) (q : ℕ → Bool) (f : ℕ → ℕ) → sumIn (suc n) q f ≡ sumIn n q f + cond (q n) (f n) 0
+unfolding sumIn sum
+sumIn-suc n q f = refl
+
+pub sumIn-same : (n : ℕ) (q : ℕ → Bool) (f g : ℕ → ℕ) → ((i : ℕ) → i < n → q i ≡ true → f i ≡ g i) → sumIn n q f ≡ sumIn n q g
+unfolding sumIn
+sumIn-same n q f g e = sum-same n _ _ (λ i l. chosen (q i) (e i l))
+  where
+    chosen : (b : Bool) {x y : ℕ} → (b ≡ true → x ≡ y) → cond b x 0 ≡ cond b y 0
+    chosen true h = h refl
+    chosen false h = refl
+
+pub sumIn-le : (n : ℕ) (q : ℕ → Bool) (f g : ℕ → ℕ) → ((i : ℕ) → i < n → q i ≡ true → f i ≤ g i) → sumIn n q f ≤ sumIn n q g
+unfolding sumIn
+sumIn-le n q f g e = sum-le n _ _ (λ i l. chosen (q i) (e i l))
+  where
+    chosen : (b : Bool) {x y : ℕ} → (b ≡ true → x ≤ y) → cond b x 0 ≤ cond b y 0
+    chosen true h = h refl
+    chosen false h = le-refl 0
+
+pub sumIn-add : (n : ℕ) (q : ℕ → Bool) (f g : ℕ → ℕ) → sumIn n q (λ i. f i + g i) ≡ sumIn n q f + sumIn n q g
+unfolding sumIn
+sumIn-add n q f g = sum-same n _ _ (λ i l. chosen (q i) (f i) (g i)) ∙ sum-add n _ _
+  where
+    chosen : (b : Bool) (x y : ℕ) → cond b (x + y) 0 ≡ cond b x 0 + cond b y 0
+    chosen true x y = refl
+    chosen false x y = refl
+
+-- the set of all
+pub sumIn-all : (n : ℕ) (f : ℕ → ℕ) → sumIn n (λ i. true) f ≡ sum n f
+unfolding sumIn
+sumIn-all n f = refl
+
+-- k for each member
+pub sumIn-const : (n k : ℕ) (q : ℕ → Bool) → sumIn n q (λ i. k) ≡ size n q * k
+unfolding size sumIn sum
+sumIn-const zero k q = sym (zero-mul k)
+sumIn-const (suc n) k q = rw (add-mul, sumIn-const n k q) (ap (λ x. size n q * k + x) (chosen (q n)))
+  where
+    chosen : (b : Bool) → cond b k 0 ≡ cond b 1 0 * k
+    chosen true = sym (one-mul k)
+    chosen false = sym (zero-mul k)
+
+-- every term k times
+pub sumIn-times : (n k : ℕ) (q : ℕ → Bool) (f : ℕ → ℕ) → sumIn n q (λ i. f i * k) ≡ sumIn n q f * k
+unfolding sumIn sum
+sumIn-times zero k q f = sym (zero-mul k)
+sumIn-times (suc n) k q f = rw (add-mul, sumIn-times n k q f) (ap (λ x. sumIn n q f * k + x) (chosen (q n) (f n)))
+  where
+    chosen : (b : Bool) (x : ℕ) → cond b (x * k) 0 ≡ cond b x 0 * k
+    chosen true x = refl
+    chosen false x = sym (zero-mul k)
+
+-- ---- tests
+
+pub all-suc : (n : ℕ) (p : ℕ → Bool) → all (suc n) p ≡ cond (p n) (all n p) false
+unfolding all
+all-suc n p = refl
+
+-- one more test that passes, as a loop counts it
+pub all-next : (n : ℕ) (p : ℕ → Bool) → all n p ≡ true → p n ≡ true → all (n + 1) p ≡ true
+all-next n p a e = rw (add-one, all-suc, e) a
+
+-- a test that fails somewhere
+pub all-fails : (n : ℕ) (p : ℕ → Bool) (i : ℕ) → i < n → p i ≡ false → all n p ≡ false
+unfolding all
+all-fails zero p i l e = absurd (omega arith)
+all-fails (suc n) p i l e =
+    ⊎-elim (λ (h : i ≡ n). rw (← h, e)) (λ (h : i < n). rw (all-fails n p i h e) (chosen (p n))) (below-suc l)
+  where
+    chosen : (b : Bool) → cond b false false ≡ false
+    chosen true = refl
+    chosen false = refl
+
+-- a test that passes for all passes for each, and the other way round
+pub all-each : (n : ℕ) (p : ℕ → Bool) → all n p ≡ true → (i : ℕ) → i < n → p i ≡ true
+all-each n p a i l = passed (p i) refl
+  where
+    passed : (b : Bool) → p i ≡ b → p i ≡ true
+    passed true e = e
+    passed false e = let z : false ≡ true = cc (all-fails n p i l e) in cc
+
+pub each-all : (n : ℕ) (p : ℕ → Bool) → ((i : ℕ) → i < n → p i ≡ true) → all n p ≡ true
+unfolding all
+each-all zero p h = refl
+each-all (suc n) p h = rw (h n (le-refl (suc n))) (each-all n p (λ i l. h i (omega arith)))
+
+pub all-same : (n : ℕ) (p r : ℕ → Bool) → ((i : ℕ) → i < n → p i ≡ r i) → all n p ≡ all n r
+unfolding all
+all-same zero p r e = refl
+all-same (suc n) p r e = rw (e n (le-refl (suc n)), all-same n p r (λ i l. e i (omega arith)))

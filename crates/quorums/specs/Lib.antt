@@ -1,0 +1,4 @@
+pub mod Sum
+pub mod Difference
+pub mod Accounts
+pub mod Published
