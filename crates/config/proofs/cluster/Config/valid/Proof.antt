@@ -1,0 +1,36 @@
+use Prim.Native.Nat.{_*_, _≤_}
+use native.Mathlib.Omega.{arith}
+use mathlib.Core.Path.{sym, ap, _∙_}
+use borrow.Author.Needs.{needs}
+use borrow.Author.Tests.{le-ltb, lt-leb, le-leb, lt-ltb, not-true, not-false}
+use Rattle.config.specs.Cluster.{validOf, serverOf, startOf, totalOf, leastOf, startAnswer, totalAnswer, leastAnswer, aboveAnswer}
+use Rattle.config.proofs.Clusters.{valid-bounds, total-is, total-small, least-small, total-told, total-refused, least-told, least-refused, above-least}
+use Rattle.config.proofs.cluster.Config.valid.Statement.{statement}
+use Rattle.config.proofs.cluster.Config.valid.Tie as tie
+use Rattle.config.proofs.cluster.Config.valid.Reads as reads
+use Rattle.config.proofs.cluster.Config.valid.Lts as lts
+
+returns : tie.Need-returns
+unfolding validOf
+returns c = simp (lt-leb _ _ (c .if1 .taken))
+
+returns-2 : tie.Need-returns-2
+unfolding validOf
+returns-2 c = simp (le-leb _ _ (c .before .if1 .left), lt-leb _ _ (c .if2 .taken))
+
+returns-3 : tie.Need-returns-3
+unfolding validOf
+returns-3 c =
+    let a = c .before .before .before .args .self in
+    let h : a .n ≤ 2 * a .f = omega arith in
+    simp (le-leb _ _ (c .before .before .if1 .left), le-leb _ _ (c .before .if2 .left), le-ltb _ _ h)
+
+mul-result : tie.Need-mul-result
+mul-result c = search needs
+
+returns-4 : tie.Need-returns-4
+unfolding validOf
+returns-4 c = simp (le-leb _ _ (c .before .before .if1 .left), le-leb _ _ (c .before .if2 .left))
+
+pub valid-spec : {M : Type 1} → statement M
+valid-spec = tie.close (tie.spec returns returns-2 returns-3 mul-result returns-4)

@@ -1,0 +1,56 @@
+-- The cluster's parameters (paper 01, "Sheets": a house has n servers and a crash limit f).
+use Prim.Native.Nat.{ℕ, _+_, _-_, _*_, _/_}
+use mathlib.Core.Bool.{Bool, true, false, cond}
+use lib.Dec.{leb, ltb}
+use lib.IntN.{ℤ}
+use Rattle.quorums.specs.Sum.{sum}
+use Rattle.quorums.specs.Accounts.{above}
+use Rattle.config.specs.declared.cluster.Config.{Config}
+use Rattle.config.specs.declared.answer.Refusal.{Refusal}
+use Rattle.config.specs.declared.answer.Number.{Number}
+use Rattle.config.specs.declared.answer.Decision.{Decision}
+
+abbrev pub configOf : ℕ → ℕ → Config
+configOf n f = record { n = n; f = f }
+
+-- 1 ≤ n ≤ 16 and 2f < n
+unfoldable pub validOf : Config → Bool
+validOf c = cond (leb 1 (c .n)) (cond (leb (c .n) 16) (ltb (2 * c .f) (c .n)) false) false
+
+-- the start weight of server i
+unfoldable pub startOf : Config → ℕ → ℕ
+startOf c i = 1000
+
+-- W
+unfoldable pub totalOf : Config → ℕ
+totalOf c = sum (c .n) (startOf c)
+
+-- whether a weight is above the floor: w × 2 × (n − f) > W
+unfoldable pub aboveOf : Config → ℤ → Bool
+aboveOf c w = above (c .n) (c .f) (totalOf c) w
+
+-- the least weight above the floor
+unfoldable pub leastOf : Config → ℕ
+leastOf c = totalOf c / (2 * (c .n - c .f)) + 1
+
+-- whether the cluster is within bounds and i one of its servers
+unfoldable pub serverOf : Config → ℕ → Bool
+serverOf c i = cond (validOf c) (ltb i (c .n)) false
+
+-- What the calls answer: 1 for a cluster out of bounds, and for a server that there isn't.
+
+abbrev pub decide : Bool → Decision
+decide true = Decision.Yes
+decide false = Decision.No
+
+unfoldable pub startAnswer : Config → ℕ → Number
+startAnswer c i = cond (serverOf c i) (Number.Value (startOf c i)) (Number.Refused Refusal.BadHouse)
+
+unfoldable pub totalAnswer : Config → Number
+totalAnswer c = cond (validOf c) (Number.Value (totalOf c)) (Number.Refused Refusal.BadHouse)
+
+unfoldable pub leastAnswer : Config → Number
+leastAnswer c = cond (validOf c) (Number.Value (leastOf c)) (Number.Refused Refusal.BadHouse)
+
+unfoldable pub aboveAnswer : Config → ℤ → Decision
+aboveAnswer c w = cond (validOf c) (decide (aboveOf c w)) (Decision.Refused Refusal.BadHouse)
