@@ -12,7 +12,8 @@ use lib.Signed.{ltZ}
 use Rattle.quorums.specs.Sum.{sum}
 use Rattle.quorums.specs.Difference.{difference}
 use Rattle.quorums.proofs.Sums.{sum-const}
-use Rattle.quorums.proofs.Differences.{le-or-lt, ltb-same, pos-difference, difference-down}
+use Rattle.quorums.proofs.Tests.{le-or-lt, ltb-same, both}
+use Rattle.quorums.proofs.Differences.{pos-difference, difference-down}
 use Rattle.quorums.proofs.Weights.{above-is}
 use Rattle.config.specs.declared.cluster.Config.{Config}
 use Rattle.config.specs.declared.answer.Refusal.{Refusal}
@@ -25,11 +26,6 @@ pub record Bounds (c : Config) : Type 0 where
   pub some : 1 ≤ c .n
   pub most : c .n ≤ 16
   pub crash : 2 * c .f < c .n
-
--- a test that holds after another
-both : (a b : Bool) → cond a b false ≡ true → (a ≡ true) × (b ≡ true)
-both true b e = (refl, e)
-both false b e = let z : _≡_ {A = ℕ} 0 1 = cc in absurd (omega arith)
 
 pub valid-bounds : (c : Config) → validOf c ≡ true → Bounds c
 unfolding validOf

@@ -2,7 +2,7 @@
 use super::answer::{Decision, Number, Refusal};
 
 ghost use mathlib.Core.Path.{_≡_};
-ghost use Rattle.config.specs.Cluster.{configOf, validOf, startAnswer, totalAnswer, leastAnswer, aboveAnswer};
+ghost use Rattle.config.specs.Cluster.{configOf, validOf, serverOf, startAnswer, totalAnswer, leastAnswer, aboveAnswer};
 
 // Servers 0 to n - 1, of which f may crash.
 #[repr(C)]
@@ -43,14 +43,21 @@ impl Config {
         2 * f < n
     }
 
+    // Whether n and f are within bounds and `server` is a server of the cluster.
+    pub fn has(self, server: u64) -> bool
+        ensures { λ r. ⌜ r ≡ serverOf self server ⌝ }
+    {
+        if !self.valid() {
+            return false;
+        }
+        server < self.n
+    }
+
     // The start weight of a server.
     pub fn start(self, server: u64) -> Number
         ensures { λ r. ⌜ r ≡ startAnswer self server ⌝ }
     {
-        if !self.valid() {
-            return Number::Refused(Refusal::BadHouse);
-        }
-        if self.n <= server {
+        if !self.has(server) {
             return Number::Refused(Refusal::BadHouse);
         }
         Number::Value(START)

@@ -11,21 +11,7 @@ use lib.Dec.{ltb}
 use lib.IntN.{ℤ, pos, negsuc, negℤ, subℕ, _+ℤ_, _-ℤ_, _*ℤ_}
 use lib.Signed.{ltZ}
 use Rattle.quorums.specs.Difference.{difference}
-
--- one of two orders holds
-pub le-or-lt : (a b : ℕ) → (a ≤ b) ⊎ (b < a)
-le-or-lt a b = by-test (ltb b a) refl
-  where
-    by-test : (t : Bool) → ltb b a ≡ t → (a ≤ b) ⊎ (b < a)
-    by-test true e = inr (ltb-true b a e)
-    by-test false e = inl (ltb-false b a e)
-
--- two tests with one meaning are one test
-pub ltb-same : (a b c d : ℕ) → (a < b → c < d) → (c < d → a < b) → ltb a b ≡ ltb c d
-ltb-same a b c d to from =
-    ⊎-elim (λ (h : b ≤ a). le-ltb a b h ∙ sym (le-ltb c d (⊎-elim (λ (k : d ≤ c). k) (λ (k : c < d). omega (arith, from k)) (le-or-lt d c))))
-    (λ (h : a < b). lt-ltb a b h ∙ sym (lt-ltb c d (to h)))
-    (le-or-lt b a)
+use Rattle.quorums.proofs.Tests.{le-or-lt, ltb-same}
 
 is-difference : (a b : ℕ) → subℕ a b ≡ difference a b
 unfolding difference

@@ -1,0 +1,35 @@
+-- The ledger (paper 01: sheet): a count for each giver and what each gave each taker, in one flat array.
+use Prim.Native.Nat.{ℕ, _+_, _*_}
+use lib.ListN.{getD, replicate}
+use Rattle.quorums.specs.Sum.{sum}
+use Rattle.quorums.specs.Accounts.{Accounts}
+use Rattle.config.specs.Cluster.{startOf}
+use Rattle.config.specs.declared.cluster.Config.{Config}
+use Rattle.ledger.specs.declared.ledger.Ledger.{Ledger}
+
+-- no transfer
+abbrev pub freshLedger : Ledger
+freshLedger = record { counts = replicate 16 0; cells = replicate 256 0 }
+
+-- how many transfers giver i made
+abbrev pub countOf : Ledger → ℕ → ℕ
+countOf l i = getD (l .counts) i 0
+
+-- what giver i gave taker j
+abbrev pub cellOf : Ledger → ℕ → ℕ → ℕ
+cellOf l i j = getD (l .cells) (i * 16 + j) 0
+
+-- the sum of n cells from one on, a step apart
+unfoldable pub lineOf : Ledger → ℕ → ℕ → ℕ → ℕ
+lineOf l from step n = sum n (λ k. getD (l .cells) (from + k * step) 0)
+
+-- what server i gave, and what it received
+unfoldable pub givenOf : Ledger → ℕ → ℕ
+givenOf l i = sum 16 (λ j. cellOf l i j)
+
+unfoldable pub receivedOf : Ledger → ℕ → ℕ
+receivedOf l i = sum 16 (λ j. cellOf l j i)
+
+-- what each server started with, received and gave
+abbrev pub accountsOf : Config → Ledger → Accounts
+accountsOf c l = record { start = startOf c; received = receivedOf l; given = givenOf l }

@@ -1,0 +1,45 @@
+// The record, and what every module reads of it.
+ghost use mathlib.Core.Path.{_≡_};
+ghost use Prim.Native.Nat.{ℕ, _+_, _*_, _<_, _≤_};
+ghost use lib.ListN.{getD};
+ghost use Rattle.ledger.specs.Ledgers.{freshLedger, lineOf};
+
+// The transfers known to a party. counts[i] is the number of transfers that server i made, and cells[16 i + j] what it gave server j in all.
+#[repr(C)]
+pub struct Ledger {
+    pub counts: [u16; 16],
+    pub cells: [u32; 256],
+}
+
+impl Ledger {
+    // The ledger with no transfer: every count and every cell is 0.
+    pub fn fresh() -> Ledger
+        ensures { λ r. ⌜ (r ≡ freshLedger) × ((k : ℕ) → k < 16 → getD (r .counts) k 0 ≡ 0) × ((k : ℕ) → k < 256 → getD (r .cells) k 0 ≡ 0) ⌝ }
+    {
+        Ledger {
+            counts: [0; 16],
+            cells: [0; 256],
+        }
+    }
+
+    // The sum of the 16 cells from `from` on, `step` apart: a row (step 1) or a column (step 16).
+    pub(crate) fn line(self, from: usize, step: usize) -> u64
+        requires { ⌜ (from + 15 * step < 256) ⌝ }
+        ensures { λ r. ⌜ (r ≡ lineOf self from step 16) × (r ≤ 68719476720) ⌝ }
+    {
+        let mut total: u64 = 0;
+        let mut k: usize = 0;
+        while k < 16 {
+            let at = from + k * step;
+            total += wide(self.cells[at]);
+            k += 1;
+        }
+        total
+    }
+}
+
+pub(crate) fn wide(x: u32) -> u64
+    ensures { λ r. ⌜ (r ≡ x) × (r ≤ 4294967295) ⌝ }
+{
+    x as u64
+}

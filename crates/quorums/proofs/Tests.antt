@@ -1,0 +1,28 @@
+-- Tests, and the facts that they decide.
+use Prim.Native.Nat.{ℕ, _≤_, _<_}
+use native.Mathlib.Omega.{arith}
+use mathlib.Core.Path.{_≡_, refl, sym, _∙_}
+use mathlib.Core.Logic.{_⊎_, inl, inr, ⊎-elim}
+use mathlib.Core.Bool.{Bool, true, false, cond}
+use borrow.Author.Tests.{lt-ltb, le-ltb, ltb-true, ltb-false}
+use lib.Dec.{ltb}
+
+-- one of two orders holds
+pub le-or-lt : (a b : ℕ) → (a ≤ b) ⊎ (b < a)
+le-or-lt a b = by-test (ltb b a) refl
+  where
+    by-test : (t : Bool) → ltb b a ≡ t → (a ≤ b) ⊎ (b < a)
+    by-test true e = inr (ltb-true b a e)
+    by-test false e = inl (ltb-false b a e)
+
+-- two tests with one meaning are one test
+pub ltb-same : (a b c d : ℕ) → (a < b → c < d) → (c < d → a < b) → ltb a b ≡ ltb c d
+ltb-same a b c d to from =
+    ⊎-elim (λ (h : b ≤ a). le-ltb a b h ∙ sym (le-ltb c d (⊎-elim (λ (k : d ≤ c). k) (λ (k : c < d). omega (arith, from k)) (le-or-lt d c))))
+    (λ (h : a < b). lt-ltb a b h ∙ sym (lt-ltb c d (to h)))
+    (le-or-lt b a)
+
+-- two tests that hold, one after the other
+pub both : (a b : Bool) → cond a b false ≡ true → (a ≡ true) × (b ≡ true)
+both true b e = (refl, e)
+both false b e = let z : _≡_ {A = ℕ} 0 1 = cc in absurd (omega arith)
