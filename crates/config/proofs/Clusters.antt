@@ -43,6 +43,9 @@ pub server-valid : (c : Config) (i : ℕ) → serverOf c i ≡ true → (validOf
 unfolding serverOf
 server-valid c i e = let x = both (validOf c) _ e in (x .0, ltb-true _ _ (x .1))
 
+pub server-small : (c : Config) (i : ℕ) → serverOf c i ≡ true → i < 16
+server-small c i e = let x = server-valid c i e in omega (arith, x .1, valid-bounds c (x .0) .most)
+
 pub valid-server : (c : Config) (i : ℕ) → validOf c ≡ true → i < c .n → serverOf c i ≡ true
 unfolding serverOf
 valid-server c i v l = rw v (lt-ltb _ _ l)

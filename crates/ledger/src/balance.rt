@@ -1,1 +1,74 @@
-// TODO
+// Both sides of a weight, as plain numbers: signed numbers are made only where an answer is one.
+use super::ledger::Ledger;
+use super::map::names;
+use config::answer::Number;
+use config::cluster::Config;
+
+ghost use mathlib.Core.Path.{_≡_};
+ghost use mathlib.Core.Bool.{true};
+ghost use Prim.Native.Nat.{_<_, _≤_};
+ghost use Rattle.quorums.specs.Difference.{difference as differenceOf};
+ghost use Rattle.config.specs.Cluster.{serverOf, validOf};
+ghost use Rattle.ledger.specs.Balances.{Balanced, BalancedNamed, BalancedIn};
+
+// What servers have before their gifts are taken off, and what they gave.
+pub(crate) struct Balance {
+    pub held: u64,
+    pub given: u64,
+}
+
+impl Ledger {
+    // The balance of one server.
+    pub(crate) fn balance(self, config: Config, server: u64) -> Balance
+        requires { ⌜ serverOf config server ≡ true ⌝ }
+        ensures { λ r. ⌜ Balanced config self server r ⌝ }
+    {
+        let i = server as usize;
+        let Number::Value(start) = config.start(server) else {
+            return Balance { held: 0, given: 0 };
+        };
+        let received = self.line(i, 16);
+        let given = self.line(i * 16, 1);
+        Balance {
+            held: start + received,
+            given,
+        }
+    }
+
+    // The same, or nothing where the map does not name the server.
+    fn balance_named(self, config: Config, map: u16, server: u64) -> Balance
+        requires { ⌜ serverOf config server ≡ true ⌝ }
+        ensures { λ r. ⌜ BalancedNamed config self map server r ⌝ }
+    {
+        if names(map, server) {
+            return self.balance(config, server);
+        }
+        Balance { held: 0, given: 0 }
+    }
+
+    // The balance of the servers that a map names together.
+    pub(crate) fn balance_in(self, config: Config, map: u16) -> Balance
+        requires { ⌜ validOf config ≡ true ⌝ }
+        ensures { λ r. ⌜ BalancedIn config self map r ⌝ }
+    {
+        let n = config.n;
+        let mut held: u64 = 0;
+        let mut given: u64 = 0;
+        let mut i: u64 = 0;
+        while i < n {
+            let b = self.balance_named(config, map, i);
+            held += b.held;
+            given += b.given;
+            i += 1;
+        }
+        Balance { held, given }
+    }
+}
+
+// a less b, as a signed number.
+pub(crate) fn difference(a: u64, b: u64) -> i64
+    requires { ⌜ (a < 4611686018427387904) × (b < 4611686018427387904) ⌝ }
+    ensures { λ r. ⌜ r ≡ differenceOf a b ⌝ }
+{
+    (a as i64) - (b as i64)
+}

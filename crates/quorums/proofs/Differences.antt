@@ -9,7 +9,7 @@ use mathlib.Core.Bool.{Bool, true, false, cond}
 use borrow.Author.Tests.{lt-ltb, le-ltb, ltb-true, ltb-false}
 use lib.Dec.{ltb}
 use lib.IntN.{ℤ, pos, negsuc, negℤ, subℕ, _+ℤ_, _-ℤ_, _*ℤ_}
-use lib.Signed.{ltZ}
+use lib.Signed.{ltZ, mag}
 use Rattle.quorums.specs.Difference.{difference}
 use Rattle.quorums.proofs.Tests.{le-or-lt, ltb-same}
 
@@ -92,3 +92,11 @@ lt-difference w a b =
     (λ (h : b ≤ a). rw (difference-up a b h) (ltb-same w (a - b) (b + w) a (λ (k : w < a - b). omega arith) (λ (k : b + w < a). omega arith)))
     (λ (h : a < b). rw (difference-down a b h) (sym (le-ltb (b + w) a (omega arith))))
     (le-or-lt b a)
+
+-- as a program computes it, and its size
+pub pos-less : (a b : ℕ) → pos a -ℤ pos b ≡ difference a b
+pos-less a b = rw (pos-difference a, difference-less a 0 b) (difference-same a (0 + b) a b (omega arith))
+
+pub difference-mag : (a b k : ℕ) → a < k → b < k → mag (difference a b) < k
+difference-mag a b k p q =
+    ⊎-elim (λ (h : b ≤ a). rw (difference-up a b h) (omega arith)) (λ (h : a < b). rw (difference-down a b h) (omega arith)) (le-or-lt b a)

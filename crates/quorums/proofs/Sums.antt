@@ -77,6 +77,13 @@ pub sumIn-suc : (n : ℕ) (q : ℕ → Bool) (f : ℕ → ℕ) → sumIn (suc n)
 unfolding sumIn sum
 sumIn-suc n q f = refl
 
+pub sumIn-none : (q : ℕ → Bool) (f : ℕ → ℕ) → sumIn 0 q f ≡ 0
+unfolding sumIn sum
+sumIn-none q f = refl
+
+pub sumIn-next : (n : ℕ) (q : ℕ → Bool) (f : ℕ → ℕ) → sumIn (n + 1) q f ≡ sumIn n q f + cond (q n) (f n) 0
+sumIn-next n q f = rw add-one (sumIn-suc n q f)
+
 pub sumIn-same : (n : ℕ) (q : ℕ → Bool) (f g : ℕ → ℕ) → ((i : ℕ) → i < n → q i ≡ true → f i ≡ g i) → sumIn n q f ≡ sumIn n q g
 unfolding sumIn
 sumIn-same n q f g e = sum-same n _ _ (λ i l. chosen (q i) (e i l))

@@ -1,0 +1,37 @@
+-- `balance_named` meets its contract, by whether the map names the server.
+use mathlib.Core.Bool.{cond}
+use native.Mathlib.Omega.{arith}
+use mathlib.Core.Path.{_≡_, sym, _∙_}
+use borrow.Author.Needs.{needs}
+use Rattle.config.proofs.Clusters.{server-small}
+use Rattle.ledger.specs.Maps.{named}
+use Rattle.ledger.proofs.ledger.Ledger.balance_named.Statement.{statement}
+use Rattle.ledger.proofs.ledger.Ledger.balance_named.Tie as tie
+use Rattle.ledger.proofs.ledger.Ledger.balance_named.Reads as reads
+use Rattle.ledger.proofs.ledger.Ledger.balance_named.Lts as lts
+use Rattle.ledger.proofs.ledger.Ledger.balance.Reads as balance-reads
+use Rattle.ledger.proofs.map.names.Reads as names-reads
+
+names-requires : tie.Need-names-requires
+names-requires c κs = server-small _ _ (c .pre)
+
+balance-requires : tie.Need-balance-requires
+balance-requires c κs = search needs
+
+returns : tie.Need-returns
+returns c =
+    let e = sym (c .before .before .names .ensures) ∙ c .before .if1 .taken in
+    record {
+      held-is = rw e (c .balance .ensures .held-is);
+      given-is = rw e (c .balance .ensures .given-is);
+      held-small = c .balance .ensures .held-small;
+      given-small = c .balance .ensures .given-small;
+    }
+
+returns-2 : tie.Need-returns-2
+returns-2 c =
+    let e = sym (c .before .names .ensures) ∙ c .if1 .left in
+    record { held-is = rw e; given-is = rw e; held-small = omega arith; given-small = omega arith }
+
+pub balance-named-spec : {M : Type 1} → statement M
+balance-named-spec = tie.close (tie.spec names-requires balance-requires returns returns-2)
