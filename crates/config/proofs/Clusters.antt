@@ -12,7 +12,7 @@ use lib.Signed.{ltZ}
 use Rattle.quorums.specs.Sum.{sum}
 use Rattle.quorums.specs.Difference.{difference}
 use Rattle.quorums.proofs.Sums.{sum-const}
-use Rattle.quorums.proofs.Tests.{le-or-lt, ltb-same, both}
+use Rattle.quorums.proofs.Tests.{le-or-lt, ltb-same, both, chosen-first, chosen-second}
 use Rattle.quorums.proofs.Differences.{pos-difference, difference-down}
 use Rattle.quorums.proofs.Weights.{above-is}
 use Rattle.config.specs.declared.cluster.Config.{Config}
@@ -106,13 +106,14 @@ above-not-less c (negsuc x) v = rw (below x, above-least c 0 (suc x) v) (lt-leb 
 
 -- ---- answers
 
+pub value-not-refused : (x : ℕ) (r : Refusal) → Number.Value x ≡ Number.Refused r → ⊥
+value-not-refused x r e = let z : _≡_ {A = ℕ} 0 1 = cc in omega arith
+
 told-value : (b : Bool) (x y : ℕ) → cond b (Number.Value x) (Number.Refused Refusal.BadHouse) ≡ Number.Value y → (b ≡ true) × (y ≡ x)
-told-value true x y e = (refl, cc)
-told-value false x y e = let z : _≡_ {A = ℕ} 0 1 = cc in absurd (omega arith)
+told-value b x y e = let t = chosen-first b _ _ _ (λ d. value-not-refused _ _ (sym d)) e in (t .0, cc)
 
 told-refused : (b : Bool) (x : ℕ) (r : Refusal) → cond b (Number.Value x) (Number.Refused Refusal.BadHouse) ≡ Number.Refused r → b ≡ false
-told-refused true x r e = let z : _≡_ {A = ℕ} 0 1 = cc in absurd (omega arith)
-told-refused false x r e = refl
+told-refused b x r e = chosen-second b _ _ _ (value-not-refused _ _) e
 
 -- what an answer with a value tells, and one that refuses
 pub start-told : (c : Config) (i y : ℕ) → startAnswer c i ≡ Number.Value y → (serverOf c i ≡ true) × (y ≡ startOf c i)

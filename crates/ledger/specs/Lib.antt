@@ -1,3 +1,4 @@
 pub mod Ledgers
 pub mod Maps
 pub mod Balances
+pub mod Weights

@@ -1,1 +1,82 @@
-// TODO
+// Weights, the margin of a map, and quorums (paper 01, "Sheets").
+use super::balance::difference;
+use super::ledger::Ledger;
+use super::map::within;
+use config::answer::{Decision, Number, Refusal, Signed};
+use config::cluster::Config;
+
+ghost use mathlib.Core.Path.{_≡_};
+ghost use Rattle.ledger.specs.Weights.{givenAnswer, receivedAnswer, weightAnswer, allAnswer, marginAnswer, quorumAnswer};
+
+impl Ledger {
+    // What a server gave in all.
+    pub fn given(self, config: Config, server: u64) -> Number
+        ensures { λ r. ⌜ r ≡ givenAnswer config self server ⌝ }
+    {
+        if !config.has(server) {
+            return Number::Refused(Refusal::BadHouse);
+        }
+        let i = server as usize;
+        Number::Value(self.line(i * 16, 1))
+    }
+
+    // What a server received in all.
+    pub fn received(self, config: Config, server: u64) -> Number
+        ensures { λ r. ⌜ r ≡ receivedAnswer config self server ⌝ }
+    {
+        if !config.has(server) {
+            return Number::Refused(Refusal::BadHouse);
+        }
+        let i = server as usize;
+        Number::Value(self.line(i, 16))
+    }
+
+    // The weight of a server: start + received − given. It is negative where a ledger says that more was given than was there.
+    pub fn weight(self, config: Config, server: u64) -> Signed
+        ensures { λ r. ⌜ r ≡ weightAnswer config self server ⌝ }
+    {
+        if !config.has(server) {
+            return Signed::Refused(Refusal::BadHouse);
+        }
+        let b = self.balance(config, server);
+        Signed::Value(difference(b.held, b.given))
+    }
+
+    // The weight of all servers together.
+    pub fn weight_of_all(self, config: Config) -> Signed
+        ensures { λ r. ⌜ r ≡ allAnswer config self ⌝ }
+    {
+        if !config.valid() {
+            return Signed::Refused(Refusal::BadHouse);
+        }
+        let b = self.balance_in(config, 65535);
+        Signed::Value(difference(b.held, b.given))
+    }
+
+    // Twice the weight of the servers that a map names, less W.
+    pub fn margin(self, config: Config, map: u16) -> Signed
+        ensures { λ r. ⌜ r ≡ marginAnswer config self map ⌝ }
+    {
+        if !within(config, map) {
+            return Signed::Refused(Refusal::BadHouse);
+        }
+        let Number::Value(total) = config.total() else {
+            return Signed::Refused(Refusal::BadHouse);
+        };
+        let b = self.balance_in(config, map);
+        Signed::Value(difference(2 * b.held, 2 * b.given + total))
+    }
+
+    // Whether the servers that a map names are a quorum: whether the margin is above zero.
+    pub fn quorum(self, config: Config, map: u16) -> Decision
+        ensures { λ r. ⌜ r ≡ quorumAnswer config self map ⌝ }
+    {
+        let Signed::Value(margin) = self.margin(config, map) else {
+            return Decision::Refused(Refusal::BadHouse);
+        };
+        if 0 < margin {
+            return Decision::Yes;
+        }
+        Decision::No
+    }
+}

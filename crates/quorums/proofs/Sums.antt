@@ -113,6 +113,11 @@ pub sumIn-all : (n : ℕ) (f : ℕ → ℕ) → sumIn n (λ i. true) f ≡ sum n
 unfolding sumIn
 sumIn-all n f = refl
 
+-- two sets with the same members below n
+pub sumIn-set : (n : ℕ) (p q : ℕ → Bool) (f : ℕ → ℕ) → ((i : ℕ) → i < n → p i ≡ q i) → sumIn n p f ≡ sumIn n q f
+unfolding sumIn
+sumIn-set n p q f e = sum-same n _ _ (λ i l. ap (λ b. cond b (f i) 0) (e i l))
+
 -- k for each member
 pub sumIn-const : (n k : ℕ) (q : ℕ → Bool) → sumIn n q (λ i. k) ≡ size n q * k
 unfolding size sumIn sum

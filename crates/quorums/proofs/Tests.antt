@@ -26,3 +26,12 @@ ltb-same a b c d to from =
 pub both : (a b : Bool) → cond a b false ≡ true → (a ≡ true) × (b ≡ true)
 both true b e = (refl, e)
 both false b e = let z : _≡_ {A = ℕ} 0 1 = cc in absurd (omega arith)
+
+-- which of two was chosen, where the other is not what came out
+pub chosen-first : {A : Type 0} (b : Bool) (x y z : A) → (y ≡ z → ⊥) → cond b x y ≡ z → (b ≡ true) × (x ≡ z)
+chosen-first true x y z ne e = (refl, e)
+chosen-first false x y z ne e = absurd (ne e)
+
+pub chosen-second : {A : Type 0} (b : Bool) (x y z : A) → (x ≡ z → ⊥) → cond b x y ≡ z → b ≡ false
+chosen-second true x y z ne e = absurd (ne e)
+chosen-second false x y z ne e = refl

@@ -1,0 +1,76 @@
+-- Weights, margins and quorums as the program computes them, and what an answer tells.
+use Prim.Native.Nat.{ℕ, _+_, _*_, _^_, _<_}
+use native.Mathlib.Omega.{arith}
+use mathlib.Core.Path.{_≡_, refl, sym, ap₂, _∙_}
+use mathlib.Core.Bool.{Bool, true, false, cond}
+use lib.IntN.{ℤ, pos}
+use lib.Signed.{ltZ, mag}
+use mir.Syntax.{w64}
+use mir.Val.{toZ, ofZ}
+use mir.Facts.{toZ-ofZ}
+use Rattle.quorums.specs.Sum.{sumIn, all}
+use Rattle.quorums.specs.Difference.{difference}
+use Rattle.quorums.specs.Accounts.{held, weight, total, quorum}
+use Rattle.quorums.proofs.Tests.{chosen-first, chosen-second}
+use Rattle.quorums.proofs.Sums.{sumIn-set, all-each}
+use Rattle.quorums.proofs.Weights.{weightIn-is, margin-is}
+use Rattle.config.specs.Cluster.{validOf, totalOf}
+use Rattle.config.proofs.Clusters.{valid-bounds}
+use Rattle.config.specs.declared.cluster.Config.{Config}
+use Rattle.config.specs.declared.answer.Refusal.{Refusal}
+use Rattle.config.specs.declared.answer.Signed.{Signed}
+use Rattle.ledger.specs.declared.ledger.Ledger.{Ledger}
+use Rattle.ledger.specs.declared.balance.Balance.{Balance}
+use Rattle.ledger.specs.Ledgers.{accountsOf, givenOf}
+use Rattle.ledger.specs.Maps.{named, mapOf}
+use Rattle.ledger.specs.Balances.{Balanced, BalancedIn}
+use Rattle.ledger.specs.Weights.{weightOf, allOf, marginOf, quorumOf, marginAnswer}
+
+-- a signed number that fits is read back as itself
+pub read-back : (z : ℤ) → mag z < 2 ^ 63 → toZ w64 (ofZ w64 z) ≡ z
+read-back z h = toZ-ofZ (record { sfits = h })
+
+-- a weight, from a server's balance
+pub weight-balance : (c : Config) (l : Ledger) (i : ℕ) (b : Balance) → Balanced c l i b → difference (b .held) (b .given) ≡ weightOf c l i
+unfolding weightOf weight
+weight-balance c l i b h = ap₂ difference (h .held-is) (h .given-is)
+
+-- the map of all names every server
+all-named : (i : ℕ) → i < 16 → named 65535 i ≡ true
+unfolding all named
+all-named = all-each 16 (named 65535) refl
+
+pub all-balance : (c : Config) (l : Ledger) (b : Balance) → validOf c ≡ true → BalancedIn c l 65535 b → difference (b .held) (b .given) ≡ allOf c l
+unfolding allOf
+all-balance c l b v h =
+    rw (h .held-is, h .given-is, weightIn-is (c .n) (accountsOf c l) (λ i. true), every (held (accountsOf c l)), every (givenOf l))
+  where
+    every : (f : ℕ → ℕ) → sumIn (c .n) (named 65535) f ≡ sumIn (c .n) (λ i. true) f
+    every f = sumIn-set (c .n) (named 65535) (λ i. true) f (λ i k. all-named i (omega (arith, valid-bounds c v .most)))
+
+pub total-accounts : (c : Config) (l : Ledger) → total (c .n) (accountsOf c l) ≡ totalOf c
+unfolding total totalOf
+total-accounts c l = refl
+
+-- a margin, from the balance of the servers named
+pub margin-balance : (c : Config) (l : Ledger) (m : ℕ) (b : Balance) → BalancedIn c l m b
+    → difference (2 * b .held) (2 * b .given + totalOf c) ≡ marginOf c l m
+unfolding marginOf
+margin-balance c l m b h = rw (h .held-is, h .given-is, margin-is (c .n) (accountsOf c l) (named m), total-accounts c l)
+
+-- quorum is the margin's sign
+pub quorum-margin : (c : Config) (l : Ledger) (m : ℕ) → quorumOf c l m ≡ ltZ (pos 0) (marginOf c l m)
+unfolding quorumOf quorum marginOf
+quorum-margin c l m = refl
+
+-- what an answer of `margin` tells
+value-not-refused : (x : ℤ) (r : Refusal) → Signed.Value x ≡ Signed.Refused r → ⊥
+value-not-refused x r e = let z : _≡_ {A = ℕ} 0 1 = cc in omega arith
+
+pub margin-told : (c : Config) (l : Ledger) (m : ℕ) (y : ℤ) → marginAnswer c l m ≡ Signed.Value y → (mapOf c m ≡ true) × (y ≡ marginOf c l m)
+unfolding marginAnswer
+margin-told c l m y e = let t = chosen-first (mapOf c m) _ _ _ (λ d. value-not-refused _ _ (sym d)) e in (t .0, cc)
+
+pub margin-refused : (c : Config) (l : Ledger) (m : ℕ) (r : Refusal) → marginAnswer c l m ≡ Signed.Refused r → mapOf c m ≡ false
+unfolding marginAnswer
+margin-refused c l m r e = chosen-second (mapOf c m) _ _ _ (value-not-refused _ _) e

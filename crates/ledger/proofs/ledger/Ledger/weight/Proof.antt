@@ -1,0 +1,39 @@
+-- `weight` meets its contract: the difference of the two sides of the balance.
+use native.Mathlib.Omega.{arith}
+use mathlib.Core.Path.{_≡_, sym, ap, _∙_}
+use mathlib.Core.Bool.{true}
+use borrow.Author.Needs.{needs}
+use borrow.Author.Tests.{not-true, not-false}
+use Rattle.config.specs.declared.answer.Signed.{Signed}
+use Rattle.ledger.specs.Weights.{weightAnswer}
+use Rattle.ledger.proofs.Answers.{read-back, weight-balance}
+use Rattle.ledger.proofs.ledger.Ledger.weight.Statement.{statement}
+use Rattle.ledger.proofs.ledger.Ledger.weight.Tie as tie
+use Rattle.ledger.proofs.ledger.Ledger.weight.Reads as reads
+use Rattle.ledger.proofs.ledger.Ledger.weight.Lts as lts
+use Rattle.config.proofs.cluster.Config.has.Reads as has-reads
+use Rattle.ledger.proofs.balance.difference.Reads as difference-reads
+use Rattle.ledger.proofs.ledger.Ledger.balance.Reads as balance-reads
+
+has-requires : tie.Need-has-requires
+has-requires c κs = search needs
+
+returns : tie.Need-returns
+unfolding weightAnswer
+returns c = simp (sym (c .before .has .ensures) ∙ not-true _ (c .if1 .taken))
+
+balance-requires : tie.Need-balance-requires
+balance-requires c κs = sym (c .before .has .ensures) ∙ not-false _ (c .if1 .left)
+
+difference-requires : tie.Need-difference-requires
+difference-requires c κs = search needs
+
+returns-2 : tie.Need-returns-2
+unfolding weightAnswer
+returns-2 c =
+    simp (sym (c .before .before .before .has .ensures) ∙ not-false _ (c .before .before .if1 .left))
+    (ap Signed.Value (read-back (c .difference .result) (c .difference .ok) ∙ c .difference .ensures ∙ weight-balance _ _ _ _ (c .before .balance .ensures)))
+
+pub weight-spec : {M : Type 1} → statement M
+weight-spec =
+    tie.close (tie.spec has-requires returns balance-requires difference-requires returns-2)

@@ -1,0 +1,40 @@
+-- `weight_of_all` meets its contract: the map of all ones names every server.
+use native.Mathlib.Omega.{arith}
+use mathlib.Core.Path.{_≡_, sym, ap, _∙_}
+use mathlib.Core.Bool.{true}
+use borrow.Author.Needs.{needs}
+use borrow.Author.Tests.{not-true, not-false}
+use Rattle.config.specs.Cluster.{validOf}
+use Rattle.config.specs.declared.answer.Signed.{Signed}
+use Rattle.ledger.specs.Weights.{allAnswer}
+use Rattle.ledger.proofs.Answers.{read-back, all-balance}
+use Rattle.ledger.proofs.ledger.Ledger.weight_of_all.Statement.{statement}
+use Rattle.ledger.proofs.ledger.Ledger.weight_of_all.Tie as tie
+use Rattle.ledger.proofs.ledger.Ledger.weight_of_all.Reads as reads
+use Rattle.ledger.proofs.ledger.Ledger.weight_of_all.Lts as lts
+use Rattle.config.proofs.cluster.Config.valid.Reads as valid-reads
+use Rattle.ledger.proofs.balance.difference.Reads as difference-reads
+use Rattle.ledger.proofs.ledger.Ledger.balance_in.Reads as balance-in-reads
+
+valid-requires : tie.Need-valid-requires
+valid-requires c κs = search needs
+
+returns : tie.Need-returns
+unfolding allAnswer
+returns c = simp (sym (c .before .valid .ensures) ∙ not-true _ (c .if1 .taken))
+
+balance-in-requires : tie.Need-balance-in-requires
+balance-in-requires c κs = sym (c .before .valid .ensures) ∙ not-false _ (c .if1 .left)
+
+difference-requires : tie.Need-difference-requires
+difference-requires c κs = search needs
+
+returns-2 : tie.Need-returns-2
+unfolding allAnswer
+returns-2 c =
+    let v = sym (c .before .before .before .valid .ensures) ∙ not-false _ (c .before .before .if1 .left) in
+    simp v (ap Signed.Value (read-back (c .difference .result) (c .difference .ok) ∙ c .difference .ensures ∙ all-balance _ _ _ v (c .before .balance-in .ensures)))
+
+pub weight-of-all-spec : {M : Type 1} → statement M
+weight-of-all-spec =
+    tie.close (tie.spec valid-requires returns balance-in-requires difference-requires returns-2)

@@ -1,0 +1,50 @@
+-- Weights, margins and quorums on a ledger (paper 01, "Sheets"). A cluster out of bounds, a server ≥ n and a map with a bit ≥ n are 1.
+use Prim.Native.Nat.{ℕ}
+use mathlib.Core.Bool.{Bool, true, false, cond}
+use lib.IntN.{ℤ}
+use Rattle.quorums.specs.Accounts.{weight, weightIn, margin, quorum}
+use Rattle.config.specs.Cluster.{validOf, serverOf, decide}
+use Rattle.config.specs.declared.cluster.Config.{Config}
+use Rattle.config.specs.declared.answer.Refusal.{Refusal}
+use Rattle.config.specs.declared.answer.Number.{Number}
+use Rattle.config.specs.declared.answer.Signed.{Signed}
+use Rattle.config.specs.declared.answer.Decision.{Decision}
+use Rattle.ledger.specs.declared.ledger.Ledger.{Ledger}
+use Rattle.ledger.specs.Ledgers.{givenOf, receivedOf, accountsOf}
+use Rattle.ledger.specs.Maps.{named, mapOf}
+
+-- start + received − given
+unfoldable pub weightOf : Config → Ledger → ℕ → ℤ
+weightOf c l i = weight (accountsOf c l) i
+
+-- the weights of all servers together
+unfoldable pub allOf : Config → Ledger → ℤ
+allOf c l = weightIn (c .n) (accountsOf c l) (λ i. true)
+
+-- twice the weight of the servers that m names, less W
+unfoldable pub marginOf : Config → Ledger → ℕ → ℤ
+marginOf c l m = margin (c .n) (accountsOf c l) (named m)
+
+-- whether that is above zero
+unfoldable pub quorumOf : Config → Ledger → ℕ → Bool
+quorumOf c l m = quorum (c .n) (accountsOf c l) (named m)
+
+-- What the calls answer.
+
+unfoldable pub givenAnswer : Config → Ledger → ℕ → Number
+givenAnswer c l i = cond (serverOf c i) (Number.Value (givenOf l i)) (Number.Refused Refusal.BadHouse)
+
+unfoldable pub receivedAnswer : Config → Ledger → ℕ → Number
+receivedAnswer c l i = cond (serverOf c i) (Number.Value (receivedOf l i)) (Number.Refused Refusal.BadHouse)
+
+unfoldable pub weightAnswer : Config → Ledger → ℕ → Signed
+weightAnswer c l i = cond (serverOf c i) (Signed.Value (weightOf c l i)) (Signed.Refused Refusal.BadHouse)
+
+unfoldable pub allAnswer : Config → Ledger → Signed
+allAnswer c l = cond (validOf c) (Signed.Value (allOf c l)) (Signed.Refused Refusal.BadHouse)
+
+unfoldable pub marginAnswer : Config → Ledger → ℕ → Signed
+marginAnswer c l m = cond (mapOf c m) (Signed.Value (marginOf c l m)) (Signed.Refused Refusal.BadHouse)
+
+unfoldable pub quorumAnswer : Config → Ledger → ℕ → Decision
+quorumAnswer c l m = cond (mapOf c m) (decide (quorumOf c l m)) (Decision.Refused Refusal.BadHouse)
