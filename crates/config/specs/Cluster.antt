@@ -17,6 +17,10 @@ configOf n f = record { n = n; f = f }
 unfoldable pub validOf : Config → Bool
 validOf c = cond (leb 1 (c .n)) (cond (leb (c .n) 16) (ltb (2 * c .f) (c .n)) false) false
 
+-- the most that the servers of any cluster weigh together
+abbrev pub mostWeight : ℕ
+mostWeight = 16000
+
 -- the start weight of server i
 unfoldable pub startOf : Config → ℕ → ℕ
 startOf c i = 1000

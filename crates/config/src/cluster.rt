@@ -14,6 +14,9 @@ pub struct Config {
 // The most servers that a cluster has.
 pub const MOST_SERVERS: u64 = 16;
 
+// The most that the servers of any cluster weigh together.
+pub const MOST_WEIGHT: u64 = 16000;
+
 // What every server weighs at the start.
 const START: u64 = 1000;
 

@@ -1,3 +1,4 @@
 pub mod Lines
 pub mod Maps
 pub mod Answers
+pub mod Checks

@@ -2,3 +2,4 @@ pub mod Ledgers
 pub mod Maps
 pub mod Balances
 pub mod Weights
+pub mod Checks

@@ -43,3 +43,9 @@ pub(crate) fn wide(x: u32) -> u64
 {
     x as u64
 }
+
+pub(crate) fn wide16(x: u16) -> u64
+    ensures { λ r. ⌜ (r ≡ x) × (r ≤ 65535) ⌝ }
+{
+    x as u64
+}

@@ -144,6 +144,10 @@ pub all-suc : (n : ℕ) (p : ℕ → Bool) → all (suc n) p ≡ cond (p n) (all
 unfolding all
 all-suc n p = refl
 
+pub all-none : (p : ℕ → Bool) → all 0 p ≡ true
+unfolding all
+all-none p = refl
+
 -- one more test that passes, as a loop counts it
 pub all-next : (n : ℕ) (p : ℕ → Bool) → all n p ≡ true → p n ≡ true → all (n + 1) p ≡ true
 all-next n p a e = rw (add-one, all-suc, e) a

@@ -1,0 +1,40 @@
+-- What the checks of a ledger tell.
+use Prim.Native.Nat.{ℕ}
+use native.Mathlib.Omega.{arith}
+use mathlib.Core.Path.{_≡_, refl, sym}
+use mathlib.Core.Bool.{Bool, true, false, cond}
+use Rattle.config.specs.Cluster.{validOf}
+use Rattle.config.specs.declared.cluster.Config.{Config}
+use Rattle.config.specs.declared.answer.Refusal.{Refusal}
+use Rattle.config.specs.declared.answer.Verdict.{Verdict}
+use Rattle.ledger.specs.declared.ledger.Ledger.{Ledger}
+use Rattle.ledger.specs.Checks.{bounded, aboveFloor, boundsAnswer, floorAnswer, checkAnswer}
+
+accepted-not-refused : {A : Type 0} (r : Refusal) → Verdict.Accepted ≡ Verdict.Refused r → A
+accepted-not-refused r e = let z : _≡_ {A = ℕ} 0 1 = cc in absurd (omega arith)
+
+-- within bounds, the floor decides
+pub check-floor : (c : Config) (l : Ledger) → boundsAnswer c l ≡ Verdict.Accepted → floorAnswer c l ≡ checkAnswer c l
+unfolding boundsAnswer floorAnswer checkAnswer
+check-floor c l e = by-tests (validOf c) (bounded c l) e
+  where
+    by-tests : (v b : Bool)
+        → cond v (cond b Verdict.Accepted (Verdict.Refused Refusal.OddField)) (Verdict.Refused Refusal.BadHouse) ≡ Verdict.Accepted
+        → cond v (cond (aboveFloor c l) Verdict.Accepted (Verdict.Refused Refusal.Light)) (Verdict.Refused Refusal.BadHouse)
+        ≡ cond v (cond b (cond (aboveFloor c l) Verdict.Accepted (Verdict.Refused Refusal.Light)) (Verdict.Refused Refusal.OddField)) (Verdict.Refused Refusal.BadHouse)
+    by-tests true true d = refl
+    by-tests true false d = accepted-not-refused _ (sym d)
+    by-tests false b d = refl
+
+-- and out of bounds, the bounds
+pub check-bounds : (c : Config) (l : Ledger) (r : Refusal) → boundsAnswer c l ≡ Verdict.Refused r → Verdict.Refused r ≡ checkAnswer c l
+unfolding boundsAnswer checkAnswer
+check-bounds c l r e = by-tests (validOf c) (bounded c l) e
+  where
+    by-tests : (v b : Bool)
+        → cond v (cond b Verdict.Accepted (Verdict.Refused Refusal.OddField)) (Verdict.Refused Refusal.BadHouse) ≡ Verdict.Refused r
+        → Verdict.Refused r
+        ≡ cond v (cond b (cond (aboveFloor c l) Verdict.Accepted (Verdict.Refused Refusal.Light)) (Verdict.Refused Refusal.OddField)) (Verdict.Refused Refusal.BadHouse)
+    by-tests true true d = accepted-not-refused r d
+    by-tests true false d = sym d
+    by-tests false b d = sym d

@@ -1,0 +1,29 @@
+-- `total_fits` meets its contract, test by test.
+use native.Mathlib.Omega.{arith}
+use mathlib.Core.Path.{_≡_, sym, ap, _∙_}
+use mathlib.Core.Bool.{true, false, not}
+use borrow.Author.Needs.{needs}
+use borrow.Author.Tests.{lt-leb, le-leb}
+use Rattle.ledger.specs.Checks.{totalFits}
+use Rattle.ledger.proofs.check.total_fits.Statement.{statement}
+use Rattle.ledger.proofs.check.total_fits.Tie as tie
+use Rattle.ledger.proofs.check.total_fits.Reads as reads
+use Rattle.ledger.proofs.check.total_fits.Lts as lts
+use Rattle.ledger.proofs.ledger.wide16.Reads as wide16-reads
+
+wide16-requires : tie.Need-wide16-requires
+wide16-requires c κs = search needs
+
+returns : tie.Need-returns
+unfolding totalFits
+returns c = simp (sym (c .before .wide16 .ensures .0), lt-leb _ _ (c .if1 .taken))
+
+mul-result : tie.Need-mul-result
+mul-result c = search needs
+
+returns-2 : tie.Need-returns-2
+unfolding totalFits
+returns-2 c = simp (sym (c .before .wide16 .ensures .0), le-leb _ _ (c .if1 .left))
+
+pub total-fits-spec : {M : Type 1} → statement M
+total-fits-spec = tie.close (tie.spec wide16-requires returns mul-result returns-2)

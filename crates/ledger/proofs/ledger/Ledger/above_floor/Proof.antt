@@ -1,0 +1,81 @@
+-- `above_floor` meets its contract: every server before i is above the floor.
+use native.Mathlib.Omega.{arith}
+use mathlib.Core.Path.{_≡_, sym, ap, _∙_}
+use mathlib.Core.Bool.{true, false, not}
+use borrow.Author.Needs.{needs}
+use borrow.Author.Tests.{lt-leb, le-leb}
+use lib.Dec.{leb}
+use Prim.Native.Nat.{_+_, _-_, _≤_}
+use Rattle.quorums.specs.Sum.{all}
+use Rattle.quorums.proofs.Sums.{all-none, all-next, all-fails}
+use Rattle.config.specs.Cluster.{validOf, aboveOf}
+use Rattle.config.proofs.Clusters.{valid-bounds, valid-server, least-small, above-least}
+use Rattle.ledger.specs.Weights.{weightOf}
+use Rattle.ledger.specs.Checks.{aboveFloor, serverAbove}
+use Rattle.ledger.proofs.Answers.{weight-balance}
+use Rattle.ledger.proofs.ledger.Ledger.above_floor.Statement.{statement}
+use Rattle.ledger.proofs.ledger.Ledger.above_floor.Tie as tie
+use Rattle.ledger.proofs.ledger.Ledger.above_floor.Reads as reads
+use Rattle.ledger.proofs.ledger.Ledger.above_floor.Lts as lts
+use Rattle.ledger.proofs.ledger.Ledger.balance.Reads as balance-reads
+
+abbrev Inv-loop : tie.InvT-loop
+Inv-loop self config least n i₀ i = (i ≤ config .n) × (all i (serverAbove config self) ≡ true)
+
+abbrev μ-loop : tie.MeasureT-loop
+μ-loop self config least n i₀ i = config .n - i
+
+loop-holds : tie.Need-loop-holds Inv-loop μ-loop
+loop-holds c = (omega arith, all-none _)
+
+balance-requires : tie.Need-balance-requires Inv-loop μ-loop
+balance-requires c κs = valid-server _ _ (c .before .before .pre .0) (c .loop-test .taken)
+
+add-if1 : tie.Need-add-if1 Inv-loop μ-loop
+add-if1 c =
+    let start = c .before .before .before .before in
+    omega (arith, c .before .balance .ensures .given-small, start .pre .1, least-small _ (start .pre .0))
+
+above : (c : tie.After-struct-known Inv-loop μ-loop) →
+    serverAbove (c .before .before .before .before .args .config) (c .before .before .before .before .args .self) (c .before .before .before .loop .i)
+    ≡ leb (c .before .balance .result .given + c .before .before .before .before .args .least) (c .before .balance .result .held)
+above c =
+    let start = c .before .before .before .before in
+    let b = c .before .balance in
+    ap (aboveOf (start .args .config)) (sym (weight-balance _ _ _ _ (b .ensures)))
+    ∙ above-least (start .args .config) (b .result .held) (b .result .given) (start .pre .0)
+    ∙ ap (λ w. leb (b .result .given + w) (b .result .held)) (sym (start .pre .1))
+
+returns : tie.Need-returns Inv-loop μ-loop
+unfolding aboveFloor
+returns c = sym (all-fails _ (serverAbove (c .before .before .before .before .before .before .args .config) (c .before .before .before .before .before .before .args .self)) _ (c .before .before .before .before .loop-test .taken) (above (c .before .before) ∙ lt-leb _ _ (c .if1 .taken)))
+
+add-i : tie.Need-add-i Inv-loop μ-loop
+add-i c = search needs
+
+loop-less : tie.Need-loop-less Inv-loop μ-loop
+loop-less c = search needs
+
+loop-again : tie.Need-loop-again Inv-loop μ-loop
+loop-again c = (omega arith, all-next _ (serverAbove (c .before .before .before .before .before .before .args .config) (c .before .before .before .before .before .before .args .self)) (c .before .before .before .before .before .loop .inv .1) (above (c .before .before) ∙ le-leb _ _ (c .if1 .left)))
+
+returns-2 : tie.Need-returns-2 Inv-loop μ-loop
+unfolding aboveFloor
+returns-2 c =
+    let e : c .before .loop .i ≡ c .before .before .args .config .n = omega arith in
+    sym (rw e at (c .before .loop .inv .1))
+
+pub above-floor-spec : {M : Type 1} → statement M
+above-floor-spec =
+    tie.close
+    (tie.spec
+    Inv-loop
+    μ-loop
+    loop-holds
+    balance-requires
+    add-if1
+    returns
+    add-i
+    loop-less
+    loop-again
+    returns-2)
