@@ -3,6 +3,7 @@ use Prim.Native.Nat.{ℕ}
 use native.Mathlib.Omega.{arith}
 use mathlib.Core.Path.{_≡_, refl, sym}
 use mathlib.Core.Bool.{Bool, true, false, cond}
+use Rattle.quorums.proofs.Tests.{chosen-first, chosen-second}
 use Rattle.config.specs.Cluster.{validOf}
 use Rattle.config.specs.declared.cluster.Config.{Config}
 use Rattle.config.specs.declared.answer.Refusal.{Refusal}
@@ -10,7 +11,7 @@ use Rattle.config.specs.declared.answer.Verdict.{Verdict}
 use Rattle.ledger.specs.declared.ledger.Ledger.{Ledger}
 use Rattle.ledger.specs.Checks.{bounded, aboveFloor, boundsAnswer, floorAnswer, checkAnswer}
 
-accepted-not-refused : {A : Type 0} (r : Refusal) → Verdict.Accepted ≡ Verdict.Refused r → A
+pub accepted-not-refused : {A : Type 0} (r : Refusal) → Verdict.Accepted ≡ Verdict.Refused r → A
 accepted-not-refused r e = let z : _≡_ {A = ℕ} 0 1 = cc in absurd (omega arith)
 
 -- within bounds, the floor decides
@@ -38,3 +39,12 @@ check-bounds c l r e = by-tests (validOf c) (bounded c l) e
     by-tests true true d = accepted-not-refused r d
     by-tests true false d = sym d
     by-tests false b d = sym d
+
+-- what an answer of `check_floor` tells of a valid cluster
+pub floor-told : (c : Config) (l : Ledger) → validOf c ≡ true → floorAnswer c l ≡ Verdict.Accepted → aboveFloor c l ≡ true
+unfolding floorAnswer
+floor-told c l v e = chosen-first (aboveFloor c l) _ _ _ (λ d. accepted-not-refused _ (sym d)) (rw v at e) .0
+
+pub floor-refused : (c : Config) (l : Ledger) (r : Refusal) → validOf c ≡ true → floorAnswer c l ≡ Verdict.Refused r → aboveFloor c l ≡ false
+unfolding floorAnswer
+floor-refused c l r v e = chosen-second (aboveFloor c l) _ _ _ (accepted-not-refused r) (rw v at e)

@@ -3,3 +3,5 @@ pub mod Maps
 pub mod Balances
 pub mod Weights
 pub mod Checks
+pub mod Tables
+pub mod Joins

@@ -1,4 +1,6 @@
 // The record, and what every module reads of it.
+use config::answer::Verdict;
+
 ghost use mathlib.Core.Path.{_≡_};
 ghost use Prim.Native.Nat.{ℕ, _+_, _*_, _<_, _≤_};
 ghost use lib.ListN.{getD};
@@ -9,6 +11,12 @@ ghost use Rattle.ledger.specs.Ledgers.{freshLedger, lineOf};
 pub struct Ledger {
     pub counts: [u16; 16],
     pub cells: [u32; 256],
+}
+
+// What a call that changes a ledger hands back: the ledger changed, or as it was where the verdict is a refusal.
+pub struct Changed {
+    pub verdict: Verdict,
+    pub ledger: Ledger,
 }
 
 impl Ledger {

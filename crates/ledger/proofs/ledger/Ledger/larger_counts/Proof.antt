@@ -1,0 +1,84 @@
+-- `larger_counts` meets its contract: every count before i is the larger one.
+use Prim.Native.Nat.{ℕ, _-_, _/_, _≤_, _<_}
+use native.Mathlib.Omega.{arith}
+use mathlib.Core.Path.{_≡_, refl, sym, ap, _∙_}
+use mathlib.Core.Bool.{true, false, not}
+use borrow.Author.Needs.{needs}
+use borrow.Author.Tests.{not-true}
+use Rattle.quorums.specs.Sum.{all}
+use lib.ListN.{length, getD, length-set}
+use Rattle.ledger.specs.Tables.{table}
+use Rattle.ledger.proofs.Tables.{is-table, filled-next}
+use Rattle.ledger.specs.Joins.{largerAt}
+use Rattle.ledger.proofs.ledger.Ledger.larger_counts.Statement.{statement}
+use Rattle.ledger.proofs.ledger.Ledger.larger_counts.Tie as tie
+use Rattle.ledger.proofs.ledger.Ledger.larger_counts.Reads as reads
+use Rattle.ledger.proofs.ledger.Ledger.larger_counts.Lts as lts
+use Rattle.ledger.proofs.join.larger.Reads as larger-reads
+
+abbrev Inv-loop : tie.InvT-loop
+Inv-loop self other counts₀ i₀ counts i = (i ≤ 16) × (length counts ≡ 16) × ((m : ℕ) → m < i → getD counts m 0 ≡ largerAt self other m)
+
+abbrev μ-loop : tie.MeasureT-loop
+μ-loop self other counts₀ i₀ counts i = 16 - i
+
+loop-holds : tie.Need-loop-holds Inv-loop μ-loop
+loop-holds c = (omega arith, refl, λ m l. absurd (omega arith))
+
+mul-larger : tie.Need-mul-larger Inv-loop μ-loop
+mul-larger c = search needs
+
+element-copy-out-larger : tie.Need-element-copy-out-larger Inv-loop μ-loop
+element-copy-out-larger c = search needs
+
+mul-larger-2 : tie.Need-mul-larger-2 Inv-loop μ-loop
+mul-larger-2 c = search needs
+
+element-copy-out-larger-2 : tie.Need-element-copy-out-larger-2 Inv-loop μ-loop
+element-copy-out-larger-2 c = search needs
+
+larger-requires : tie.Need-larger-requires Inv-loop μ-loop
+larger-requires c κs = search needs
+
+mul-counts : tie.Need-mul-counts Inv-loop μ-loop
+mul-counts c = search needs
+
+array-write-counts : tie.Need-array-write-counts Inv-loop μ-loop
+array-write-counts c = search needs
+
+add-i : tie.Need-add-i Inv-loop μ-loop
+add-i c = search needs
+
+loop-less : tie.Need-loop-less Inv-loop μ-loop
+loop-less c = search needs
+
+loop-again : tie.Need-loop-again Inv-loop μ-loop
+loop-again c =
+    let turn = c .before .before .before .before .loop in
+    let a = c .before .before .before .before .before .args in
+    let h : turn .i < length (turn .counts) = omega (arith, turn .inv .1) in
+    (omega arith, simp length-set (turn .inv .1), filled-next (largerAt (a .t1) (a .t2)) (turn .counts) (turn .i) (c .larger .result) h (turn .inv .2) (c .larger .ensures))
+
+returns : tie.Need-returns Inv-loop μ-loop
+returns c =
+    let e : c .before .loop .i ≡ 16 = omega arith in
+    is-table 16 _ _ (c .before .loop .inv .1) (λ m l. c .before .loop .inv .2 m (rw e l))
+
+pub larger-counts-spec : {M : Type 1} → statement M
+larger-counts-spec =
+    tie.close
+    (tie.spec
+    Inv-loop
+    μ-loop
+    loop-holds
+    mul-larger
+    element-copy-out-larger
+    mul-larger-2
+    element-copy-out-larger-2
+    larger-requires
+    mul-counts
+    array-write-counts
+    add-i
+    loop-less
+    loop-again
+    returns)

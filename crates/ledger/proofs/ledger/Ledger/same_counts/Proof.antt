@@ -1,0 +1,69 @@
+-- `same_counts` meets its contract: every count before i is the same.
+use Prim.Native.Nat.{ℕ, _-_, _/_, _≤_, _<_}
+use native.Mathlib.Omega.{arith}
+use mathlib.Core.Path.{_≡_, sym, ap, _∙_}
+use mathlib.Core.Bool.{true, false, not}
+use borrow.Author.Needs.{needs}
+use borrow.Author.Tests.{eq-eqb, ne-eqb}
+use Rattle.quorums.specs.Sum.{all}
+use Rattle.quorums.proofs.Sums.{all-none, all-next, all-fails}
+use Rattle.ledger.specs.Joins.{sameCountAt}
+use Rattle.ledger.proofs.ledger.Ledger.same_counts.Statement.{statement}
+use Rattle.ledger.proofs.ledger.Ledger.same_counts.Tie as tie
+use Rattle.ledger.proofs.ledger.Ledger.same_counts.Reads as reads
+use Rattle.ledger.proofs.ledger.Ledger.same_counts.Lts as lts
+
+abbrev Inv-loop : tie.InvT-loop
+Inv-loop self other i₀ i = (i ≤ 16) × (all i (sameCountAt self other) ≡ true)
+
+abbrev μ-loop : tie.MeasureT-loop
+μ-loop self other i₀ i = 16 - i
+
+loop-holds : tie.Need-loop-holds Inv-loop μ-loop
+loop-holds c = (omega arith, all-none _)
+
+mul-if1 : tie.Need-mul-if1 Inv-loop μ-loop
+mul-if1 c = search needs
+
+element-copy-out-if1 : tie.Need-element-copy-out-if1 Inv-loop μ-loop
+element-copy-out-if1 c = search needs
+
+mul-if1-2 : tie.Need-mul-if1-2 Inv-loop μ-loop
+mul-if1-2 c = search needs
+
+element-copy-out-if1-2 : tie.Need-element-copy-out-if1-2 Inv-loop μ-loop
+element-copy-out-if1-2 c = search needs
+
+returns : tie.Need-returns Inv-loop μ-loop
+returns c = sym (all-fails 16 (sameCountAt (c .before .before .before .before .before .args .t1) (c .before .before .before .before .before .args .t2)) _ (c .before .before .before .loop-test .taken) (ne-eqb _ _ (c .if1 .taken)))
+
+add-i : tie.Need-add-i Inv-loop μ-loop
+add-i c = search needs
+
+loop-less : tie.Need-loop-less Inv-loop μ-loop
+loop-less c = search needs
+
+loop-again : tie.Need-loop-again Inv-loop μ-loop
+loop-again c = (omega arith, all-next _ (sameCountAt (c .before .before .before .before .before .args .t1) (c .before .before .before .before .before .args .t2)) (c .before .before .before .before .loop .inv .1) (eq-eqb _ _ (c .if1 .left)))
+
+returns-2 : tie.Need-returns-2 Inv-loop μ-loop
+returns-2 c =
+    let e : c .before .loop .i ≡ 16 = omega arith in
+    sym (rw e at (c .before .loop .inv .1))
+
+pub same-counts-spec : {M : Type 1} → statement M
+same-counts-spec =
+    tie.close
+    (tie.spec
+    Inv-loop
+    μ-loop
+    loop-holds
+    mul-if1
+    element-copy-out-if1
+    mul-if1-2
+    element-copy-out-if1-2
+    returns
+    add-i
+    loop-less
+    loop-again
+    returns-2)
