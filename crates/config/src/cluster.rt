@@ -1,6 +1,7 @@
 // The cluster's parameters (paper 01: house): how many servers there are, how many may crash, what each weighs at the start, and the floor.
-use super::answer::{Decision, Number, Refusal};
-
+use super::answer::Decision;
+use super::answer::Number;
+use super::answer::Refusal;
 ghost use mathlib.Core.Path.{_≡_};
 ghost use Rattle.config.specs.Cluster.{configOf, validOf, serverOf, startAnswer, totalAnswer, leastAnswer, aboveAnswer};
 

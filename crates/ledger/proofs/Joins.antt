@@ -7,7 +7,8 @@ use Rattle.config.specs.declared.answer.Refusal.{Refusal}
 use Rattle.config.specs.declared.answer.Verdict.{Verdict}
 use Rattle.ledger.specs.declared.ledger.Ledger.{Ledger}
 use Rattle.ledger.specs.declared.ledger.Changed.{Changed}
-use Rattle.ledger.specs.Joins.{joins, joined, joinAnswer, accepted, refused}
+use Rattle.ledger.specs.Ledgers.{accepted, refused}
+use Rattle.ledger.specs.Joins.{joins, joined, joinAnswer}
 use Rattle.ledger.proofs.Checks.{accepted-not-refused}
 
 pub join-told : (a b : Ledger) (r : Changed) → r ≡ joinAnswer a b → r .verdict ≡ Verdict.Accepted → (joins a b ≡ true) × (r .ledger ≡ joined a b)

@@ -4,3 +4,4 @@ pub mod Answers
 pub mod Checks
 pub mod Tables
 pub mod Joins
+pub mod Changes

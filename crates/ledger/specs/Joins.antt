@@ -8,11 +8,10 @@ use Rattle.quorums.specs.Sum.{all}
 use Rattle.config.specs.Cluster.{validOf}
 use Rattle.config.specs.declared.cluster.Config.{Config}
 use Rattle.config.specs.declared.answer.Refusal.{Refusal}
-use Rattle.config.specs.declared.answer.Verdict.{Verdict}
 use Rattle.ledger.specs.declared.ledger.Ledger.{Ledger}
 use Rattle.ledger.specs.declared.ledger.Changed.{Changed}
 use Rattle.ledger.specs.Tables.{table}
-use Rattle.ledger.specs.Ledgers.{countOf}
+use Rattle.ledger.specs.Ledgers.{countOf, refused, accepted}
 use Rattle.ledger.specs.Checks.{aboveFloor}
 
 -- of two rows with counts m and n, whether the cells x and y may stand at one place: equal at equal counts, and else the later no smaller
@@ -58,12 +57,6 @@ unfoldable pub lacks : Ledger → Ledger → Bool
 lacks a b = not (all 16 (hasAt a b))
 
 -- What the calls answer. A refusal leaves the first ledger as it was.
-
-abbrev pub refused : Refusal → Ledger → Changed
-refused r l = record { verdict = Verdict.Refused r; ledger = l }
-
-abbrev pub accepted : Ledger → Changed
-accepted l = record { verdict = Verdict.Accepted; ledger = l }
 
 unfoldable pub joinAnswer : Ledger → Ledger → Changed
 joinAnswer a b = cond (joins a b) (accepted (joined a b)) (refused Refusal.Clash a)

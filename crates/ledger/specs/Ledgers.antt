@@ -5,7 +5,10 @@ use Rattle.quorums.specs.Sum.{sum}
 use Rattle.quorums.specs.Accounts.{Accounts}
 use Rattle.config.specs.Cluster.{startOf}
 use Rattle.config.specs.declared.cluster.Config.{Config}
+use Rattle.config.specs.declared.answer.Refusal.{Refusal}
+use Rattle.config.specs.declared.answer.Verdict.{Verdict}
 use Rattle.ledger.specs.declared.ledger.Ledger.{Ledger}
+use Rattle.ledger.specs.declared.ledger.Changed.{Changed}
 
 -- no transfer
 abbrev pub freshLedger : Ledger
@@ -33,3 +36,11 @@ receivedOf l i = sum 16 (λ j. cellOf l j i)
 -- what each server started with, received and gave
 abbrev pub accountsOf : Config → Ledger → Accounts
 accountsOf c l = record { start = startOf c; received = receivedOf l; given = givenOf l }
+
+-- What a call that changes a ledger hands back: a refusal leaves the ledger as it was.
+
+abbrev pub refused : Refusal → Ledger → Changed
+refused r l = record { verdict = Verdict.Refused r; ledger = l }
+
+abbrev pub accepted : Ledger → Changed
+accepted l = record { verdict = Verdict.Accepted; ledger = l }

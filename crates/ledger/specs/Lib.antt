@@ -5,3 +5,4 @@ pub mod Weights
 pub mod Checks
 pub mod Tables
 pub mod Joins
+pub mod Changes

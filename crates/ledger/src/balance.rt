@@ -3,7 +3,6 @@ use super::ledger::Ledger;
 use super::map::names;
 use config::answer::Number;
 use config::cluster::Config;
-
 ghost use mathlib.Core.Path.{_≡_};
 ghost use mathlib.Core.Bool.{true};
 ghost use Prim.Native.Nat.{_<_, _≤_};

@@ -1,8 +1,12 @@
 // Whether a ledger is one that a party may hold or send: every count and cell within the paper's ranges, and every weight above the floor.
-use super::ledger::{Ledger, wide, wide16};
-use config::answer::{Number, Refusal, Verdict};
-use config::cluster::{Config, MOST_WEIGHT};
-
+use super::ledger::Ledger;
+use super::ledger::wide;
+use super::ledger::wide16;
+use config::answer::Number;
+use config::answer::Refusal;
+use config::answer::Verdict;
+use config::cluster::Config;
+use config::cluster::MOST_WEIGHT;
 ghost use mathlib.Core.Path.{_≡_};
 ghost use mathlib.Core.Bool.{true};
 ghost use Prim.Native.Nat.{_≤_, _<_};

@@ -1,8 +1,9 @@
 // The union of what two parties know (paper 01, "Sheets": two sheets join), and how two ledgers compare.
-use super::ledger::{Changed, Ledger};
-use config::answer::{Refusal, Verdict};
+use super::ledger::Changed;
+use super::ledger::Ledger;
+use config::answer::Refusal;
+use config::answer::Verdict;
 use config::cluster::Config;
-
 ghost use mathlib.Core.Path.{_≡_};
 ghost use Prim.Native.Nat.{max};
 ghost use Rattle.quorums.specs.Sum.{all};
@@ -15,10 +16,7 @@ impl Ledger {
         ensures { λ r. ⌜ r ≡ joinAnswer self other ⌝ }
     {
         if !self.joins(other) {
-            return Changed {
-                verdict: Verdict::Refused(Refusal::Clash),
-                ledger: self,
-            };
+            return self.refused(Refusal::Clash);
         }
         let counts = self.larger_counts(other);
         let cells = self.later_cells(other);
@@ -33,25 +31,16 @@ impl Ledger {
         ensures { λ r. ⌜ r ≡ mergeAnswer config self other ⌝ }
     {
         if !config.valid() {
-            return Changed {
-                verdict: Verdict::Refused(Refusal::BadHouse),
-                ledger: self,
-            };
+            return self.refused(Refusal::BadHouse);
         }
         let joined = self.join(other);
         let verdict = joined.verdict;
         let ledger = joined.ledger;
         let Verdict::Accepted = verdict else {
-            return Changed {
-                verdict: Verdict::Refused(Refusal::Clash),
-                ledger: self,
-            };
+            return self.refused(Refusal::Clash);
         };
         let Verdict::Accepted = ledger.check_floor(config) else {
-            return Changed {
-                verdict: Verdict::Refused(Refusal::Clash),
-                ledger: self,
-            };
+            return self.refused(Refusal::Clash);
         };
         Changed {
             verdict: Verdict::Accepted,
@@ -66,7 +55,12 @@ impl Ledger {
         let mut k: usize = 0;
         while k < 256 {
             let i = k / 16;
-            if !agree(self.counts[i], other.counts[i], self.cells[k], other.cells[k]) {
+            if !agree(
+                self.counts[i],
+                other.counts[i],
+                self.cells[k],
+                other.cells[k],
+            ) {
                 return false;
             }
             k += 1;
@@ -93,7 +87,12 @@ impl Ledger {
         let mut k: usize = 0;
         while k < 256 {
             let i = k / 16;
-            cells[k] = later(self.counts[i], other.counts[i], self.cells[k], other.cells[k]);
+            cells[k] = later(
+                self.counts[i],
+                other.counts[i],
+                self.cells[k],
+                other.cells[k],
+            );
             k += 1;
         }
         cells

@@ -1,10 +1,10 @@
 // The record, and what every module reads of it.
+use config::answer::Refusal;
 use config::answer::Verdict;
-
 ghost use mathlib.Core.Path.{_≡_};
 ghost use Prim.Native.Nat.{ℕ, _+_, _*_, _<_, _≤_};
 ghost use lib.ListN.{getD};
-ghost use Rattle.ledger.specs.Ledgers.{freshLedger, lineOf};
+ghost use Rattle.ledger.specs.Ledgers.{freshLedger, lineOf, refused as refusedOf};
 
 // The transfers known to a party. counts[i] is the number of transfers that server i made, and cells[16 i + j] what it gave server j in all.
 #[repr(C)]
@@ -27,6 +27,16 @@ impl Ledger {
         Ledger {
             counts: [0; 16],
             cells: [0; 256],
+        }
+    }
+
+    // A refusal, with the ledger as it was.
+    pub(crate) fn refused(self, refusal: Refusal) -> Changed
+        ensures { λ r. ⌜ r ≡ refusedOf refusal self ⌝ }
+    {
+        Changed {
+            verdict: Verdict::Refused(refusal),
+            ledger: self,
         }
     }
 

@@ -47,12 +47,13 @@ loop-less c = search needs
 loop-again : tie.Need-loop-again Inv-loop μ-loop
 loop-again c =
     let turn = c .before .before .before .before in
-    let more = c .before .before .balance-named .ensures in
-    (omega arith,
-    ap₂ _+_ (turn .loop .inv .1) (more .held-is) ∙ sym (sumIn-next _ _ _),
-    ap₂ _+_ (turn .loop .inv .2) (more .given-is) ∙ sym (sumIn-next _ _ _),
-    omega arith,
-    omega arith)
+    let more = c .before .before .balance-named .ensures in (
+      omega arith,
+      ap₂ _+_ (turn .loop .inv .1) (more .held-is) ∙ sym (sumIn-next _ _ _),
+      ap₂ _+_ (turn .loop .inv .2) (more .given-is) ∙ sym (sumIn-next _ _ _),
+      omega arith,
+      omega arith,
+    )
 
 returns : tie.Need-returns Inv-loop μ-loop
 returns c =

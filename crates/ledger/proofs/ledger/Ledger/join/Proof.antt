@@ -4,7 +4,8 @@ use mathlib.Core.List.{List}
 use Prim.Native.Nat.{ℕ}
 use borrow.Author.Needs.{needs}
 use borrow.Author.Tests.{not-true, not-false}
-use Rattle.ledger.specs.Joins.{joined, joinAnswer, accepted}
+use Rattle.ledger.specs.Joins.{joined, joinAnswer}
+use Rattle.ledger.specs.Ledgers.{accepted}
 use Rattle.ledger.proofs.ledger.Ledger.join.Statement.{statement}
 use Rattle.ledger.proofs.ledger.Ledger.join.Tie as tie
 use Rattle.ledger.proofs.ledger.Ledger.join.Reads as reads
@@ -12,13 +13,17 @@ use Rattle.ledger.proofs.ledger.Ledger.join.Lts as lts
 use Rattle.ledger.proofs.ledger.Ledger.joins.Reads as joins-reads
 use Rattle.ledger.proofs.ledger.Ledger.larger_counts.Reads as larger-counts-reads
 use Rattle.ledger.proofs.ledger.Ledger.later_cells.Reads as later-cells-reads
+use Rattle.ledger.proofs.ledger.Ledger.refused.Reads as refused-reads
 
 joins-requires : tie.Need-joins-requires
 joins-requires c κs = search needs
 
+refused-requires : tie.Need-refused-requires
+refused-requires c κs = search needs
+
 returns : tie.Need-returns
 unfolding joinAnswer
-returns c = simp (sym (c .before .joins .ensures) ∙ not-true _ (c .if1 .taken))
+returns c = simp (sym (c .before .before .joins .ensures) ∙ not-true _ (c .before .if1 .taken)) (c .refused .ensures)
 
 larger-counts-requires : tie.Need-larger-counts-requires
 larger-counts-requires c κs = search needs
@@ -35,4 +40,10 @@ returns-2 c =
 pub join-spec : {M : Type 1} → statement M
 join-spec =
     tie.close
-    (tie.spec joins-requires returns larger-counts-requires later-cells-requires returns-2)
+    (tie.spec
+    joins-requires
+    refused-requires
+    returns
+    larger-counts-requires
+    later-cells-requires
+    returns-2)

@@ -62,10 +62,11 @@ mul-difference-2 c = search needs
 
 small : (c : tie.After-struct-known2) → (c .before .before .balance-in .result .held ≤ 1099511883520) × (c .before .before .balance-in .result .given ≤ 1099511627520) × (c .before .before .before .before .total2 .given .0 .0 ≤ 16000)
 small c =
-    let known = c .before .before .before in
-    (c .before .before .balance-in .ensures .held-small,
-    c .before .before .balance-in .ensures .given-small,
-    rw (total-is known) (total-small _ (map-valid _ _ (mapped known) .0)))
+    let known = c .before .before .before in (
+      c .before .before .balance-in .ensures .held-small,
+      c .before .before .balance-in .ensures .given-small,
+      rw (total-is known) (total-small _ (map-valid _ _ (mapped known) .0)),
+    )
 
 add-difference : tie.Need-add-difference
 add-difference c = omega (arith, small c)
