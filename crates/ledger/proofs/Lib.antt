@@ -5,3 +5,6 @@ pub mod Checks
 pub mod Tables
 pub mod Joins
 pub mod Changes
+pub mod Totals
+pub mod Majorities
+pub mod Unions

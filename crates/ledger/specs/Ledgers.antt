@@ -1,6 +1,7 @@
 -- The ledger (paper 01: sheet): a count for each giver and what each gave each taker, in one flat array.
-use Prim.Native.Nat.{ℕ, _+_, _*_}
-use lib.ListN.{getD, replicate}
+use Prim.Native.Nat.{ℕ, _+_, _*_, _≤_}
+use mathlib.Core.Path.{_≡_}
+use lib.ListN.{length, getD, replicate}
 use Rattle.quorums.specs.Sum.{sum}
 use Rattle.quorums.specs.Accounts.{Accounts}
 use Rattle.config.specs.Cluster.{startOf}
@@ -44,3 +45,10 @@ refused r l = record { verdict = Verdict.Refused r; ledger = l }
 
 abbrev pub accepted : Ledger → Changed
 accepted l = record { verdict = Verdict.Accepted; ledger = l }
+
+-- A ledger that a call can have: the arrays have their lengths, and each number fits its type.
+pub record Typed (l : Ledger) : Type 0 where
+  pub counts-length : length (l .counts) ≡ 16
+  pub cells-length : length (l .cells) ≡ 256
+  pub count-fits : (i : ℕ) → countOf l i ≤ 65535
+  pub cell-fits : (k : ℕ) → getD (l .cells) k 0 ≤ 4294967295

@@ -59,11 +59,12 @@ unfolding sum
 sum-front zero f = omega arith
 sum-front (suc n) f = omega (arith, sum-front n f)
 
--- terms of 0 past m do not count
-pub sum-extend : (m k : ℕ) (f : ℕ → ℕ) → ((i : ℕ) → m ≤ i → f i ≡ 0) → sum (m + k) f ≡ sum m f
+-- terms of 0 from m on do not count
+pub sum-extend : (m k : ℕ) (f : ℕ → ℕ) → ((i : ℕ) → m ≤ i → i < m + k → f i ≡ 0) → sum (m + k) f ≡ sum m f
 unfolding sum
 sum-extend m zero f e = rw add-zero
-sum-extend m (suc k) f e = rw add-suc (omega (arith, sum-extend m k f e, e (m + k) (omega arith)))
+sum-extend m (suc k) f e =
+    rw add-suc (omega (arith, sum-extend m k f (λ i l h. e i l (omega (arith, add-suc m k))), e (m + k) (omega arith) (omega (arith, add-suc m k))))
 
 -- the order of two sums
 pub sum-swap : (n m : ℕ) (f : ℕ → ℕ → ℕ) → sum n (λ i. sum m (λ j. f i j)) ≡ sum m (λ j. sum n (λ i. f i j))
