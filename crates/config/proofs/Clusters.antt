@@ -96,6 +96,13 @@ turned a b =
     (λ (h : b < a). lt-leb (0 + a) b (omega arith) ∙ sym (ap not (lt-ltb b a h)))
     (le-or-lt a b)
 
+-- Every start weight is above the floor, because 2f < n.
+pub start-above : (c : Config) (i : ℕ) → validOf c ≡ true → aboveOf c (difference (startOf c i) 0) ≡ true
+unfolding aboveOf startOf
+start-above c i v =
+    let h : 0 * (2 * (c .n - c .f)) + totalOf c < 1000 * (2 * (c .n - c .f)) = omega (arith, total-is c, valid-bounds c v .crash) in
+    above-is (c .n) (c .f) (totalOf c) 1000 0 ∙ lt-ltb _ _ h
+
 -- the same of any signed weight, as a comparison
 pub above-not-less : (c : Config) (w : ℤ) → validOf c ≡ true → aboveOf c w ≡ not (ltZ w (pos (leastOf c)))
 above-not-less c (pos x) v = rw (pos-difference x, above-least c x 0 v) (turned (leastOf c) x)

@@ -8,3 +8,7 @@ pub mod Changes
 pub mod Totals
 pub mod Majorities
 pub mod Unions
+pub mod Kept
+pub mod Compared
+pub mod Fresh
+pub mod Added

@@ -44,6 +44,10 @@ pub bounded-told : (c : Config) (l : Ledger) → bounded c l ≡ true → (all 2
 unfolding bounded
 bounded-told c l e = both (all 256 (cellFits (c .n) l)) _ e
 
+pub told-bounded : (c : Config) (l : Ledger) → all 256 (cellFits (c .n) l) ≡ true → all 16 (rowFits l) ≡ true → bounded c l ≡ true
+unfolding bounded
+told-bounded c l p q = rw p q
+
 -- a cell of a ledger within bounds is 0, or its giver and its taker are two servers
 pub cell-placed : (c : Config) (l : Ledger) (i j : ℕ) → bounded c l ≡ true → i < 16 → j < 16 → (cellOf l i j ≡ 0) ⊎ Placed (c .n) i j (cellOf l i j)
 cell-placed c l i j b hi hj =
@@ -69,8 +73,10 @@ received-given c l v b =
   where
     n : ℕ
     n = c .n
+
     most : n ≤ 16
     most = valid-bounds c v .most
+
     short : (f : ℕ → ℕ) → ((j : ℕ) → n ≤ j → j < 16 → f j ≡ 0) → sum 16 f ≡ sum n f
     short f z =
         let e : n + (16 - n) ≡ 16 = omega (arith, most) in

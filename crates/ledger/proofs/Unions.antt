@@ -31,8 +31,12 @@ pub joined-cell : (a b : Ledger) (k : ℕ) → k < 256 → getD (joined a b .cel
 unfolding joined
 joined-cell a b k h = table-at 256 (laterAt a b) k h
 
+pub joined-lengths : (a b : Ledger) → (length (joined a b .counts) ≡ 16) × (length (joined a b .cells) ≡ 256)
+unfolding joined
+joined-lengths a b = (table-length 16 (largerAt a b), table-length 256 (laterAt a b))
+
 -- two ledgers with the same counts and cells are one
-same-ledger : (a b : Ledger) → a .counts ≡ b .counts → a .cells ≡ b .cells → a ≡ b
+pub same-ledger : (a b : Ledger) → a .counts ≡ b .counts → a .cells ≡ b .cells → a ≡ b
 same-ledger a b p q = ap₂ made p q
   where
     made : List ℕ → List ℕ → Ledger
@@ -47,13 +51,18 @@ joined-right a b i h = rw (joined-count a b i h) (le-max-right (countOf a i) (co
 
 -- ---- one cell
 
-later-first : (m n x y : ℕ) → n ≤ m → later m n x y ≡ x
+pub later-first : (m n x y : ℕ) → n ≤ m → later m n x y ≡ x
 unfolding later
 later-first m n x y h = rw (le-ltb m n h)
 
-later-second : (m n x y : ℕ) → m < n → later m n x y ≡ y
+pub later-second : (m n x y : ℕ) → m < n → later m n x y ≡ y
 unfolding later
 later-second m n x y h = rw (lt-ltb m n h)
+
+-- a later cell is one of the two
+pub later-either : (P : ℕ → Type 0) (m n x y : ℕ) → P x → P y → P (later m n x y)
+later-either P m n x y p q =
+    ⊎-elim (λ (h : n ≤ m). rw (later-first m n x y h) p) (λ (h : m < n). rw (later-second m n x y h) q) (le-or-lt n m)
 
 agree-self : (m x : ℕ) → agree m m x x ≡ true
 unfolding agree

@@ -53,6 +53,16 @@ sum-term zero f i l = absurd (omega arith)
 sum-term (suc n) f i l =
     ⊎-elim (λ (e : i ≡ n). rw e (omega arith)) (λ (h : i < n). omega (arith, sum-term n f i h)) (below-suc l)
 
+-- one term larger by d
+pub sum-more : (n : ℕ) (f g : ℕ → ℕ) (j d : ℕ) → j < n → g j ≡ f j + d → ((i : ℕ) → i < n → (i ≡ j → ⊥) → g i ≡ f i) → sum n g ≡ sum n f + d
+unfolding sum
+sum-more zero f g j d l e same = absurd (omega arith)
+sum-more (suc n) f g j d l e same =
+    ⊎-elim
+    (λ (h : j ≡ n). omega (arith, sum-same n g f (λ i k. same i (omega arith) (λ c. omega arith)), (rw h at e)))
+    (λ (h : j < n). omega (arith, sum-more n f g j d h e (λ i k ne. same i (omega arith) ne), same n (omega arith) (λ c. omega arith)))
+    (below-suc l)
+
 -- the first term apart
 pub sum-front : (n : ℕ) (f : ℕ → ℕ) → sum (suc n) f ≡ f 0 + sum n (λ i. f (suc i))
 unfolding sum

@@ -1,0 +1,41 @@
+-- What the comparisons decide: equality of the ledgers, and counts that are no smaller.
+use Prim.Native.Nat.{ℕ, _≤_, _<_}
+use mathlib.Core.Path.{_≡_, refl, sym, ap, _∙_}
+use mathlib.Core.Logic.{_↔_}
+use mathlib.Core.Bool.{Bool, true, false, cond, not}
+use borrow.Author.Tests.{eqb-true, eq-eqb, leb-true, le-leb, not-false, not-true}
+use lib.ListN.{getD}
+use lib.Seq.{ext-getD}
+use native.Mathlib.Omega.{arith}
+use Rattle.quorums.proofs.Tests.{both}
+use Rattle.quorums.proofs.Sums.{all-each, each-all}
+use Rattle.quorums.specs.Sum.{all}
+use Rattle.ledger.specs.declared.ledger.Ledger.{Ledger}
+use Rattle.ledger.specs.Ledgers.{countOf, Typed}
+use Rattle.ledger.specs.Joins.{sameCountAt, sameCellAt, equal, hasAt, lacks}
+use Rattle.ledger.proofs.Unions.{same-ledger}
+
+-- `equal` holds exactly of one ledger
+pub equal-same : (a b : Ledger) → Typed a → Typed b → (equal a b ≡ true) ↔ (a ≡ b)
+unfolding equal
+equal-same a b s t = (to, from)
+  where
+    to : equal a b ≡ true → a ≡ b
+    to e =
+        let x = both (all 16 (sameCountAt a b)) _ e in
+        same-ledger a b
+        (ext-getD 0 _ _ (s .counts-length ∙ sym (t .counts-length)) (λ i h. eqb-true _ _ (all-each 16 (sameCountAt a b) (x .0) i (omega (arith, s .counts-length)))))
+        (ext-getD 0 _ _ (s .cells-length ∙ sym (t .cells-length)) (λ k h. eqb-true _ _ (all-each 256 (sameCellAt a b) (x .1) k (omega (arith, s .cells-length)))))
+
+    from : a ≡ b → equal a b ≡ true
+    from e =
+        rw (each-all 16 (sameCountAt a b) (λ i h. eq-eqb _ _ (ap (λ l. countOf l i) e)))
+        (each-all 256 (sameCellAt a b) (λ k h. eq-eqb _ _ (ap (λ l. getD (l .cells) k 0) e)))
+
+-- a ledger that lacks nothing of another has counts no smaller
+pub lacks-nothing : (a b : Ledger) → (lacks a b ≡ false) ↔ ((i : ℕ) → i < 16 → countOf b i ≤ countOf a i)
+unfolding lacks
+lacks-nothing a b = (
+  λ e i h. leb-true _ _ (all-each 16 (hasAt a b) (not-false _ e) i h),
+  λ h. ap not (each-all 16 (hasAt a b) (λ i k. le-leb _ _ (h i k))),
+)
