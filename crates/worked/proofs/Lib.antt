@@ -1,0 +1,2 @@
+pub mod Quorums
+pub mod Refusals

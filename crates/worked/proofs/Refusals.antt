@@ -1,0 +1,177 @@
+-- Bad inputs of the cluster and the ledger, each with its number (paper 01, "Numbers handed out"), and numbers at the ends of their types, by
+-- computation.
+use Prim.Native.Nat.{ℕ, _+_, _-_, _*_, _^_}
+use mathlib.Core.Path.{_≡_, refl}
+use mathlib.Core.Bool.{Bool, true, false}
+use mathlib.Core.List.{_++_}
+use lib.IntN.{pos, negsuc}
+use lib.ListN.{replicate, set}
+use Rattle.quorums.specs.Sum.{size, sum, sumℤ, sumIn, all}
+use Rattle.quorums.specs.Difference.{difference}
+use Rattle.quorums.specs.Accounts.{weight, total, weightIn, margin, quorum, above}
+use Rattle.config.specs.Refusals.{numberOf}
+use Rattle.config.specs.Cluster.{configOf, validOf, serverOf, startOf, totalOf, aboveOf, leastOf, startAnswer, totalAnswer, leastAnswer, aboveAnswer}
+use Rattle.config.specs.declared.cluster.Config.{Config}
+use Rattle.config.specs.declared.answer.Refusal.{Refusal}
+use Rattle.config.specs.declared.answer.Number.{Number}
+use Rattle.config.specs.declared.answer.Signed.{Signed}
+use Rattle.config.specs.declared.answer.Decision.{Decision}
+use Rattle.config.specs.declared.answer.Verdict.{Verdict}
+use Rattle.ledger.specs.declared.ledger.Ledger.{Ledger}
+use Rattle.ledger.specs.Ledgers.{freshLedger, givenOf, receivedOf, refused, accepted}
+use Rattle.ledger.specs.Maps.{named, mapOf, namedAnswer}
+use Rattle.ledger.specs.Weights.{weightOf, allOf, marginOf, quorumOf, givenAnswer, receivedAnswer, weightAnswer, allAnswer, marginAnswer, quorumAnswer}
+use Rattle.ledger.specs.Checks.{mayHold, totalFits, bounded, aboveFloor, boundsAnswer, floorAnswer, checkAnswer}
+use Rattle.ledger.specs.Tables.{run, table}
+use Rattle.ledger.specs.Joins.{agree, later, joins, joined, joinAnswer}
+use Rattle.ledger.specs.Changes.{lawful, roomFor, added, addAnswer}
+
+-- the largest number of 64 bits
+abbrev most : ℕ
+most = 2 ^ 64 - 1
+
+abbrev house : Config
+house = configOf 5 1
+
+-- ---- the cluster: n = 0, n = 17, 2f = n, and both numbers at their ends
+
+pub record BadClusters : Type 0 where
+  pub none : totalAnswer (configOf 0 0) ≡ Number.Refused Refusal.BadHouse
+  pub seventeen : totalAnswer (configOf 17 0) ≡ Number.Refused Refusal.BadHouse
+  pub half : totalAnswer (configOf 4 2) ≡ Number.Refused Refusal.BadHouse
+  pub half-of-most : leastAnswer (configOf 16 8) ≡ Number.Refused Refusal.BadHouse
+  pub most-servers : startAnswer (configOf most 0) 0 ≡ Number.Refused Refusal.BadHouse
+  pub most-crashes : aboveAnswer (configOf 5 most) (pos 1000) ≡ Decision.Refused Refusal.BadHouse
+  pub smallest : totalAnswer (configOf 1 0) ≡ Number.Value 1000
+  pub largest : totalAnswer (configOf 16 7) ≡ Number.Value 16000
+
+pub bad-clusters : BadClusters
+unfolding totalAnswer leastAnswer startAnswer aboveAnswer validOf serverOf totalOf startOf sum
+bad-clusters = record {
+  none = refl;
+  seventeen = refl;
+  half = refl;
+  half-of-most = refl;
+  most-servers = refl;
+  most-crashes = refl;
+  smallest = refl;
+  largest = refl;
+}
+
+-- ---- the floor of five servers of which one may crash: 625 is not above it, 626 is
+
+pub record Floor : Type 0 where
+  pub at : aboveAnswer house (pos 625) ≡ Decision.No
+  pub over : aboveAnswer house (pos 626) ≡ Decision.Yes
+  pub least : leastAnswer house ≡ Number.Value 626
+  pub negative : aboveAnswer house (negsuc 0) ≡ Decision.No
+  pub last : aboveAnswer house (pos (2 ^ 63 - 1)) ≡ Decision.Yes
+  pub first : aboveAnswer house (negsuc (2 ^ 63 - 1)) ≡ Decision.No
+
+pub floor : Floor
+unfolding aboveAnswer leastAnswer validOf aboveOf above leastOf totalOf startOf sum
+floor = record { at = refl; over = refl; least = refl; negative = refl; last = refl; first = refl }
+
+-- ---- servers and maps that there aren't
+
+pub record BadServers : Type 0 where
+  pub server : weightAnswer house freshLedger 5 ≡ Signed.Refused Refusal.BadHouse
+  pub last-server : givenAnswer house freshLedger most ≡ Number.Refused Refusal.BadHouse
+  pub received : receivedAnswer house freshLedger 5 ≡ Number.Refused Refusal.BadHouse
+  pub bit : marginAnswer house freshLedger (2 ^ 5) ≡ Signed.Refused Refusal.BadHouse
+  pub all-bits : quorumAnswer house freshLedger (2 ^ 16 - 1) ≡ Decision.Refused Refusal.BadHouse
+  pub named-bit : namedAnswer house (2 ^ 5) ≡ Number.Refused Refusal.BadHouse
+  pub named-all : namedAnswer house (2 ^ 5 - 1) ≡ Number.Value 5
+  pub nobody : marginAnswer house freshLedger 0 ≡ Signed.Value (negsuc 4999)
+  pub two-of-four : marginAnswer (configOf 4 1) freshLedger 3 ≡ Signed.Value (pos 0)
+  pub two-of-five : marginAnswer house freshLedger 3 ≡ Signed.Value (negsuc 999)
+
+pub bad-servers : BadServers
+unfolding weightAnswer givenAnswer receivedAnswer marginAnswer quorumAnswer namedAnswer serverOf validOf mapOf marginOf margin weightIn weight total difference named size sumIn sum sumℤ startOf givenOf receivedOf
+bad-servers = record {
+  server = refl;
+  last-server = refl;
+  received = refl;
+  bit = refl;
+  all-bits = refl;
+  named-bit = refl;
+  named-all = refl;
+  nobody = refl;
+  two-of-four = refl;
+  two-of-five = refl;
+}
+
+-- ---- transfers that are none, or that have no room
+
+-- giver 0 has count m, and gave x to 1
+abbrev gave : ℕ → ℕ → Ledger
+gave m x = record { counts = set (replicate 16 0) 0 m; cells = set (replicate 256 0) 1 x }
+
+pub record BadTransfers : Type 0 where
+  pub giver : addAnswer house freshLedger 5 0 1 ≡ refused Refusal.BadHouse freshLedger
+  pub self-taker : addAnswer house freshLedger 0 0 1 ≡ refused Refusal.BadTransfer freshLedger
+  pub taker : addAnswer house freshLedger 0 5 1 ≡ refused Refusal.BadTransfer freshLedger
+  pub nothing : addAnswer house freshLedger 0 1 0 ≡ refused Refusal.BadTransfer freshLedger
+  pub count : addAnswer house (gave 65535 70000) 0 1 1 ≡ refused Refusal.Spent (gave 65535 70000)
+  pub cell : addAnswer house (gave 1 4294967295) 0 1 1 ≡ refused Refusal.Spent (gave 1 4294967295)
+  pub amount : addAnswer house freshLedger 0 1 most ≡ refused Refusal.Spent freshLedger
+  pub last : addAnswer house (gave 65534 4294967294) 0 1 1 ≡ accepted (gave 65535 4294967295)
+
+pub bad-transfers : BadTransfers
+unfolding addAnswer serverOf validOf lawful roomFor added
+bad-transfers = record {
+  giver = refl;
+  self-taker = refl;
+  taker = refl;
+  nothing = refl;
+  count = refl;
+  cell = refl;
+  amount = refl;
+  last = refl;
+}
+
+-- ---- rows that clash
+
+pub record Clashes : Type 0 where
+  pub same-count : joinAnswer (gave 1 10) (gave 1 11) ≡ refused Refusal.Clash (gave 1 10)
+  pub later-smaller : joinAnswer (gave 1 10) (gave 2 9) ≡ refused Refusal.Clash (gave 1 10)
+  pub earlier-larger : joinAnswer (gave 2 9) (gave 1 10) ≡ refused Refusal.Clash (gave 2 9)
+  pub later : joinAnswer (gave 1 10) (gave 2 11) ≡ accepted (gave 2 11)
+  pub earlier : joinAnswer (gave 2 11) (gave 1 10) ≡ accepted (gave 2 11)
+
+pub clashes : Clashes
+unfolding joinAnswer joins joined agree later all table run
+clashes = record { same-count = refl; later-smaller = refl; earlier-larger = refl; later = refl; earlier = refl }
+
+-- ---- whatever the arrays hold: bounds and floor told apart, and weights exact
+
+-- every number at its end
+abbrev full : Ledger
+full = record { counts = replicate 16 65535; cells = replicate 256 4294967295 }
+
+-- giver 0 gave all that its row can hold
+abbrev generous : Ledger
+generous = record { counts = replicate 16 0; cells = replicate 16 4294967295 ++ replicate 240 0 }
+
+pub record Contents : Type 0 where
+  pub full-weight : weightAnswer house full 0 ≡ Signed.Value (pos 1000)
+  pub negative-weight : weightAnswer house generous 0 ≡ Signed.Value (negsuc 64424508424)
+  pub full-bounds : checkAnswer house full ≡ Verdict.Refused Refusal.OddField
+  pub light : checkAnswer house (gave 1 375) ≡ Verdict.Refused Refusal.Light
+  pub not-light : checkAnswer house (gave 1 374) ≡ Verdict.Accepted
+  pub floor-alone : floorAnswer house full ≡ Verdict.Accepted
+  pub count-alone : checkAnswer house (gave 2 1) ≡ Verdict.Refused Refusal.OddField
+  pub cell-alone : checkAnswer house (gave 0 1) ≡ Verdict.Refused Refusal.OddField
+
+pub contents : Contents
+unfolding weightAnswer checkAnswer floorAnswer bounded aboveFloor mayHold totalFits serverOf validOf weightOf weight difference aboveOf above totalOf startOf all sum givenOf receivedOf
+contents = record {
+  full-weight = refl;
+  negative-weight = refl;
+  full-bounds = refl;
+  light = refl;
+  not-light = refl;
+  floor-alone = refl;
+  count-alone = refl;
+  cell-alone = refl;
+}

@@ -1,0 +1,1 @@
+// Paper 01's worked cases, as theorems over the definitions (proofs/), no function.
