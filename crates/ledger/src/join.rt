@@ -173,8 +173,8 @@ fn later(count: u16, other_count: u16, cell: u32, other_cell: u32) -> u32
 fn larger(count: u16, other_count: u16) -> u16
     ensures { λ r. ⌜ r ≡ max count «other_count» ⌝ }
 {
-    if count < other_count {
-        return other_count;
+    if other_count <= count {
+        return count;
     }
-    count
+    other_count
 }

@@ -57,8 +57,8 @@ above-lt n f a i W e = ltb-true _ _ (sym (above-is n f W (held a i) (a .given i)
 pub weights-total : (n : ℕ) (a : Accounts) → sum n (a .received) ≡ sum n (a .given) → weightIn n a (λ i. true) ≡ pos (total n a)
 unfolding total
 weights-total n a e =
-    rw (weightIn-is n a (λ i. true), sumIn-all n (held a), sumIn-all n (a .given), sum-add n (a .start) (a .received), pos-difference)
-    (difference-same _ _ _ _ (omega arith))
+    rw (weightIn-is n a (λ i. true), sumIn-all n (held a), sumIn-all n (a .given), pos-difference)
+    (difference-same _ _ _ _ (omega (arith, sum-add n (a .start) (a .received))))
 
 -- ---- the servers that are left
 
