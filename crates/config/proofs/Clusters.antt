@@ -1,15 +1,14 @@
 -- Laws of the cluster's parameters: what validity says, the total, the least weight as the floor's other side, and what an answer tells.
 use Prim.Native.Nat.{ℕ, suc, _+_, _-_, _*_, _/_, _≤_, _<_}
-use native.Mathlib.Nat.{add-mul, mul-comm, add-sub-of-le, div-lt-iff-lt-mul, div-le-self, mul-lt-mul-of-pos-right, lt-of-mul-lt-mul-right, lt-of-le-of-lt, le-add-right}
+use native.Mathlib.Nat.{add-mul, div-lt-iff-lt-mul, div-le-self, lt-of-mul-lt-mul-right, lt-of-le-of-lt, le-add-right}
 use native.Mathlib.Omega.{arith}
-use mathlib.Core.Path.{_≡_, refl, sym, ap, _∙_}
-use mathlib.Core.Logic.{_⊎_, ⊎-elim}
+use mathlib.Core.Path.{_≡_, sym, ap, _∙_}
+use mathlib.Core.Logic.{⊎-elim}
 use mathlib.Core.Bool.{Bool, true, false, cond, not}
 use borrow.Author.Tests.{le-leb, leb-true, lt-ltb, ltb-true, lt-leb, le-ltb}
 use lib.Dec.{leb, ltb}
 use lib.IntN.{ℤ, pos, negsuc}
 use lib.Signed.{ltZ}
-use Rattle.quorums.specs.Sum.{sum}
 use Rattle.quorums.specs.Difference.{difference}
 use Rattle.quorums.proofs.Sums.{sum-const}
 use Rattle.quorums.proofs.Tests.{le-or-lt, ltb-same, both, chosen-first, chosen-second}

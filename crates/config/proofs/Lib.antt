@@ -1,1 +1,2 @@
+-- Laws of the cluster, for use above.
 pub mod Clusters

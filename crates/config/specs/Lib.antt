@@ -1,2 +1,3 @@
+-- Definitions: the refusals and their numbers, and the cluster.
 pub mod Refusals
 pub mod Cluster

@@ -1,16 +1,16 @@
 -- One transfer more: the giver's count rises by one, the giver has given and the taker has received the amount more, and no other server's
 -- weight changes. Amounts from 1 to 16,000 keep a ledger within bounds.
-use Prim.Native.Nat.{ℕ, _+_, _-_, _*_, _/_, _%_, _≤_, _<_}
+use Prim.Native.Nat.{ℕ, _+_, _*_, _/_, _%_, _≤_, _<_}
 use native.Mathlib.Decide.{ℕ-discrete}
 use native.Mathlib.Omega.{arith}
-use mathlib.Core.Path.{_≡_, refl, sym, ap, ap₂, _∙_, subst}
-use mathlib.Core.Bool.{Bool, true, false, cond, not}
-use borrow.Author.Tests.{lt-ltb, ne-eqb, eqb-true, le-leb, leb-true}
-use lib.Dec.{eqb, ltb, leb}
+use mathlib.Core.Path.{_≡_, refl, sym, ap, ap₂, _∙_}
+use mathlib.Core.Bool.{Bool, true, false, cond}
+use borrow.Author.Tests.{lt-ltb, ne-eqb, le-leb, leb-true}
+use lib.Dec.{eqb, leb}
 use lib.IntN.{pos, _+ℤ_, _-ℤ_}
-use lib.ListN.{getD, length, set}
+use lib.ListN.{getD}
 use lib.Seq.{getD-set-same, getD-set-other}
-use Rattle.quorums.specs.Sum.{sum, all}
+use Rattle.quorums.specs.Sum.{all}
 use Rattle.quorums.specs.Difference.{difference}
 use Rattle.quorums.specs.Accounts.{weight}
 use Rattle.quorums.proofs.Tests.{both}

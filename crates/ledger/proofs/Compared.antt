@@ -1,9 +1,9 @@
 -- What the comparisons decide: equality of the ledgers, and counts that are no smaller.
 use Prim.Native.Nat.{ℕ, _≤_, _<_}
-use mathlib.Core.Path.{_≡_, refl, sym, ap, _∙_}
+use mathlib.Core.Path.{_≡_, sym, ap, _∙_}
 use mathlib.Core.Logic.{_↔_}
-use mathlib.Core.Bool.{Bool, true, false, cond, not}
-use borrow.Author.Tests.{eqb-true, eq-eqb, leb-true, le-leb, not-false, not-true}
+use mathlib.Core.Bool.{true, false, not}
+use borrow.Author.Tests.{eqb-true, eq-eqb, leb-true, le-leb, not-false}
 use lib.ListN.{getD}
 use lib.Seq.{ext-getD}
 use native.Mathlib.Omega.{arith}

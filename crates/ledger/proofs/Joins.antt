@@ -1,6 +1,4 @@
 -- What an answer of `join` tells.
-use Prim.Native.Nat.{ℕ}
-use native.Mathlib.Omega.{arith}
 use mathlib.Core.Path.{_≡_, refl, sym, ap, _∙_}
 use mathlib.Core.Bool.{Bool, true, false, cond}
 use Rattle.config.specs.declared.answer.Refusal.{Refusal}

@@ -1,25 +1,22 @@
 -- What every call keeps: a ledger that a call can have stays one, and a union of ledgers within bounds is within bounds.
-use Prim.Native.Nat.{ℕ, _+_, _*_, _/_, _%_, _≤_, _<_, max}
+use Prim.Native.Nat.{ℕ, _+_, _*_, _/_, _≤_, _<_}
 use native.Mathlib.Decide.{ℕ-discrete}
 use native.Mathlib.Omega.{arith}
-use mathlib.Core.Path.{_≡_, refl, sym, ap, _∙_, subst, subst₂}
-use mathlib.Core.Logic.{_⊎_, inl, inr, ⊎-elim}
-use mathlib.Core.Bool.{Bool, true, false, cond}
-use borrow.Author.Tests.{lt-ltb, le-ltb}
-use lib.Dec.{ltb}
+use mathlib.Core.Path.{_≡_, sym, _∙_, subst, subst₂}
+use mathlib.Core.Logic.{⊎-elim}
+use mathlib.Core.Bool.{true}
 use mathlib.Core.List.{List}
 use lib.ListN.{getD, length, set, length-set, List·getD-eq-default}
 use lib.Seq.{getD-set-same, getD-set-other}
-use Rattle.quorums.specs.Sum.{sum, all}
+use Rattle.quorums.specs.Sum.{all}
 use Rattle.quorums.proofs.Tests.{le-or-lt}
 use Rattle.quorums.proofs.Sums.{all-each, each-all, sum-same}
 use Rattle.config.specs.declared.cluster.Config.{Config}
 use Rattle.ledger.specs.declared.ledger.Ledger.{Ledger}
-use Rattle.ledger.specs.Ledgers.{freshLedger, countOf, cellOf, givenOf, Typed}
+use Rattle.ledger.specs.Ledgers.{countOf, cellOf, givenOf, Typed}
 use Rattle.ledger.specs.Checks.{mayHold, totalFits, cellFits, rowFits, bounded}
-use Rattle.ledger.specs.Joins.{later, laterAt, joined}
+use Rattle.ledger.specs.Joins.{joined}
 use Rattle.ledger.specs.Changes.{roomFor, added}
-use Rattle.ledger.proofs.Tables.{table-length}
 use Rattle.ledger.proofs.Totals.{bounded-told, told-bounded}
 use Rattle.ledger.proofs.Unions.{joined-count, joined-cell, joined-lengths, later-first, later-second, later-either}
 use Rattle.ledger.proofs.Changes.{room-told}

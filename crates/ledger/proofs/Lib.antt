@@ -1,3 +1,4 @@
+-- Laws. `Totals`, `Majorities`, `Unions`, `Added`, `Fresh`, `Kept` and `Compared` are for use above; the others serve the functions here.
 pub mod Lines
 pub mod Maps
 pub mod Answers

@@ -1,13 +1,13 @@
 -- Where every weight is above the floor, the servers that f crashes leave are a quorum.
-use Prim.Native.Nat.{ℕ, _-_, _*_, _≤_, _<_}
+use Prim.Native.Nat.{ℕ, _-_, _≤_, _<_}
 use native.Mathlib.Omega.{arith}
-use mathlib.Core.Path.{_≡_, refl, sym, ap, _∙_, subst}
+use mathlib.Core.Path.{_≡_, ap, _∙_}
 use mathlib.Core.Bool.{true}
 use Rattle.quorums.specs.Sum.{size}
-use Rattle.quorums.specs.Accounts.{above, weight, total}
+use Rattle.quorums.specs.Accounts.{above, weight}
 use Rattle.quorums.proofs.Sums.{all-each}
 use Rattle.quorums.proofs.Weights.{left-quorum}
-use Rattle.config.specs.Cluster.{validOf, aboveOf, totalOf}
+use Rattle.config.specs.Cluster.{validOf, aboveOf}
 use Rattle.config.specs.declared.cluster.Config.{Config}
 use Rattle.config.proofs.Clusters.{valid-bounds}
 use Rattle.ledger.specs.declared.ledger.Ledger.{Ledger}

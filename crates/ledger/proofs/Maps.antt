@@ -1,11 +1,11 @@
 -- Maps of servers: a map within n has no bit from n on, and the ones of a number are the servers that it names.
-use Prim.Native.Nat.{ℕ, zero, suc, _+_, _*_, _/_, _%_, _^_, _≤_, _<_}
-use native.Mathlib.Nat.{one-mul, div-one, div-eq-of-lt, div-div-eq-div-mul, div-lt-iff-lt-mul, le-div-iff-mul-le, pow-zero, pow-succ', pow-le-pow-right, le-refl, lt-of-lt-of-le, mod-lt, div-le-self}
+use Prim.Native.Nat.{ℕ, zero, suc, _+_, _/_, _%_, _^_, _≤_, _<_}
+use native.Mathlib.Nat.{one-mul, div-one, div-eq-of-lt, div-div-eq-div-mul, le-div-iff-mul-le, pow-succ', pow-le-pow-right, lt-of-lt-of-le, div-le-self}
 use native.Mathlib.Omega.{arith}
-use mathlib.Core.Path.{_≡_, refl, sym, ap, ap₂, _∙_, subst}
-use mathlib.Core.Logic.{_⊎_, ⊎-elim}
-use mathlib.Core.Bool.{Bool, true, false, cond}
-use borrow.Author.Tests.{eq-eqb, ne-eqb, eqb-true, eqb-false, lt-ltb, le-ltb, ltb-true}
+use mathlib.Core.Path.{_≡_, sym, ap, ap₂, _∙_}
+use mathlib.Core.Logic.{⊎-elim}
+use mathlib.Core.Bool.{true, false, cond}
+use borrow.Author.Tests.{eq-eqb, ne-eqb, lt-ltb, le-ltb, ltb-true}
 use lib.Dec.{eqb, ltb}
 use lib.Pow.{pow-pos, pow-add}
 use lib.Count.{ones, onesIn, ones-step}

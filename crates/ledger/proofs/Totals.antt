@@ -1,15 +1,13 @@
 -- On every ledger within bounds the weights of all servers total W: a gift leaves one server of the cluster and reaches another.
 use Prim.Native.Nat.{ℕ, _+_, _-_, _*_, _/_, _%_, _≤_, _<_}
 use native.Mathlib.Omega.{arith}
-use mathlib.Core.Path.{_≡_, refl, sym, ap, _∙_, subst}
+use mathlib.Core.Path.{_≡_, refl, sym, ap, _∙_}
 use mathlib.Core.Logic.{_⊎_, inl, inr, ⊎-elim}
 use mathlib.Core.Bool.{Bool, true, false, cond, not}
 use borrow.Author.Tests.{eqb-true, eqb-false, ltb-true, not-true}
 use lib.Dec.{eqb, ltb}
 use lib.IntN.{pos}
-use lib.ListN.{getD}
 use Rattle.quorums.specs.Sum.{sum, all}
-use Rattle.quorums.specs.Accounts as A
 use Rattle.quorums.proofs.Tests.{both}
 use Rattle.quorums.proofs.Sums.{all-each, sum-same, sum-extend, sum-swap}
 use Rattle.quorums.proofs.Weights as W

@@ -1,23 +1,19 @@
 -- Laws of the join. A cell of the union is that of the later row, and a row is taken whole; so joining is idempotent and associative, and where
 -- the rows agree it commutes. What is joined has at least the transfers of each part.
-use Prim.Native.Nat.{ℕ, _+_, _*_, _/_, _≤_, _<_, max}
+use Prim.Native.Nat.{ℕ, _/_, _≤_, _<_, max}
 use native.Mathlib.Nat.{max-comm, le-max-left, le-max-right}
 use native.Mathlib.Omega.{arith}
 use mathlib.Core.Path.{_≡_, refl, sym, ap, ap₂, _∙_}
-use mathlib.Core.Logic.{_⊎_, inl, inr, ⊎-elim}
-use mathlib.Core.Bool.{Bool, true, false, cond}
+use mathlib.Core.Logic.{⊎-elim}
+use mathlib.Core.Bool.{true}
 use mathlib.Core.List.{List}
 use borrow.Author.Tests.{lt-ltb, le-ltb, eq-eqb, ne-eqb, eqb-true}
-use lib.Dec.{leb, ltb, eqb}
+use lib.Dec.{eqb}
 use lib.ListN.{getD, length}
-use Rattle.quorums.specs.Sum.{all}
 use Rattle.quorums.proofs.Tests.{le-or-lt}
 use Rattle.quorums.proofs.Sums.{all-each, each-all, all-same}
-use Rattle.config.specs.declared.answer.Refusal.{Refusal}
 use Rattle.ledger.specs.declared.ledger.Ledger.{Ledger}
-use Rattle.ledger.specs.declared.ledger.Changed.{Changed}
-use Rattle.ledger.specs.Tables.{table}
-use Rattle.ledger.specs.Ledgers.{countOf, cellOf, Typed, accepted, refused}
+use Rattle.ledger.specs.Ledgers.{countOf, Typed, accepted}
 use Rattle.ledger.specs.Joins.{agree, later, agreeAt, laterAt, largerAt, joins, joined, joinAnswer}
 use Rattle.ledger.proofs.Tables.{table-length, table-at, table-same, is-table}
 

@@ -1,7 +1,7 @@
 -- What the private functions on balances give: both sides of a weight, with their bounds.
 use Prim.Native.Nat.{ℕ, _≤_}
 use mathlib.Core.Path.{_≡_}
-use mathlib.Core.Bool.{Bool, cond}
+use mathlib.Core.Bool.{cond}
 use Rattle.quorums.specs.Sum.{sumIn}
 use Rattle.quorums.specs.Accounts.{held}
 use Rattle.config.specs.declared.cluster.Config.{Config}

@@ -1,6 +1,6 @@
 -- One transfer more in a ledger: count + 1, cell + amount.
 use Prim.Native.Nat.{ℕ, _+_, _*_}
-use mathlib.Core.Bool.{Bool, true, false, cond}
+use mathlib.Core.Bool.{Bool, false, cond}
 use lib.Dec.{leb, ltb, eqb}
 use lib.ListN.{set}
 use Rattle.config.specs.Cluster.{serverOf}

@@ -1,7 +1,7 @@
 -- The union of two ledgers (paper 01, "Sheets": two sheets join to their union, per giver the row with the larger count; it needs equal rows at
 -- equal counts and no cell smaller in the later row), and how two ledgers compare. The cell at k is one of row k / 16.
 use Prim.Native.Nat.{ℕ, _/_, max}
-use mathlib.Core.Bool.{Bool, true, false, cond, not}
+use mathlib.Core.Bool.{Bool, false, cond, not}
 use lib.Dec.{leb, ltb, eqb}
 use lib.ListN.{getD}
 use Rattle.quorums.specs.Sum.{all}

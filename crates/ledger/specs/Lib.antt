@@ -1,3 +1,4 @@
+-- Definitions, in reading order: the ledger, maps of servers, weights, checks, the join, and one transfer more. `Balances` and `Tables` serve the rest.
 pub mod Ledgers
 pub mod Maps
 pub mod Balances

@@ -1,6 +1,6 @@
 -- Maps of servers (paper 01, "Sheets": a 16-bit server map, bits below n only).
 use Prim.Native.Nat.{ℕ, _/_, _%_, _^_}
-use mathlib.Core.Bool.{Bool, true, false, cond}
+use mathlib.Core.Bool.{Bool, false, cond}
 use lib.Dec.{eqb, ltb}
 use Rattle.quorums.specs.Sum.{size}
 use Rattle.config.specs.Cluster.{validOf}

@@ -1,6 +1,6 @@
 -- Weights, margins and quorums on a ledger (paper 01, "Sheets"). A cluster out of bounds, a server ≥ n and a map with a bit ≥ n are 1.
 use Prim.Native.Nat.{ℕ}
-use mathlib.Core.Bool.{Bool, true, false, cond}
+use mathlib.Core.Bool.{Bool, true, cond}
 use lib.IntN.{ℤ}
 use Rattle.quorums.specs.Accounts.{weight, weightIn, margin, quorum}
 use Rattle.config.specs.Cluster.{validOf, serverOf, decide}

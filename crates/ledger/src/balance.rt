@@ -5,7 +5,7 @@ use config::answer::Number;
 use config::cluster::Config;
 ghost use mathlib.Core.Path.{_≡_};
 ghost use mathlib.Core.Bool.{true};
-ghost use Prim.Native.Nat.{_<_, _≤_};
+ghost use Prim.Native.Nat.{_<_};
 ghost use Rattle.quorums.specs.Difference.{difference as differenceOf};
 ghost use Rattle.config.specs.Cluster.{serverOf, validOf};
 ghost use Rattle.ledger.specs.Balances.{Balanced, BalancedNamed, BalancedIn};

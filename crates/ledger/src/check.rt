@@ -9,7 +9,7 @@ use config::cluster::Config;
 use config::cluster::MOST_WEIGHT;
 ghost use mathlib.Core.Path.{_≡_};
 ghost use mathlib.Core.Bool.{true};
-ghost use Prim.Native.Nat.{_≤_, _<_};
+ghost use Prim.Native.Nat.{_<_};
 ghost use Rattle.quorums.specs.Sum.{all};
 ghost use Rattle.config.specs.Cluster.{validOf, leastOf};
 ghost use Rattle.ledger.specs.Checks.{mayHold, cellFits, totalFits, rowFits, aboveFloor, boundsAnswer, floorAnswer, checkAnswer};

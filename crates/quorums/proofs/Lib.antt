@@ -1,3 +1,4 @@
+-- Laws, in reading order: tests, sums, differences, weights, two quorums that meet, and the published rule.
 pub mod Tests
 pub mod Sums
 pub mod Differences

@@ -1,10 +1,10 @@
 -- Question four: when do two quorums, counted on two sheets of weights, share a server?
 -- On one sheet they always do: the weights total W and none is negative, so two sets of more than half cannot be apart. On two sheets they do where
 -- neither quorum's servers gave more on the other sheet: both are then quorums on the union of the two.
-use Prim.Native.Nat.{ℕ, zero, suc, _+_, _-_, _*_, _≤_, _<_}
+use Prim.Native.Nat.{ℕ, zero, suc, _+_, _-_, _≤_, _<_}
 use native.Mathlib.Nat.{le-refl}
 use native.Mathlib.Omega.{arith}
-use mathlib.Core.Path.{_≡_, refl, sym, ap, _∙_}
+use mathlib.Core.Path.{_≡_, refl, _∙_}
 use mathlib.Core.Logic.{_⊎_, inl, inr, ⊎-elim}
 use mathlib.Core.Bool.{Bool, true, false, cond}
 use Rattle.quorums.specs.Sum.{sum, sumIn}

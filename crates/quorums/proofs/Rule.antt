@@ -1,17 +1,16 @@
 -- Weights, the floor and quorums are those of the published restricted pairwise rule (source document 000).
-use Prim.Native.Nat.{ℕ, _+_, _-_, _*_, _<_}
+use Prim.Native.Nat.{ℕ, _-_, _*_, _<_}
 use native.Mathlib.Nat.{add-mul, mul-comm}
 use native.Mathlib.Omega.{arith}
 use mathlib.Core.Path.{_≡_, refl, sym, ap, _∙_, subst}
 use mathlib.Core.Logic.{_↔_}
 use mathlib.Core.Bool.{Bool, true, false}
 use lib.Dec.{T, ltb}
-use lib.IntN.{ℤ, pos, _-ℤ_, _*ℤ_}
+use lib.IntN.{ℤ, pos, _-ℤ_}
 use lib.Signed.{ltZ, _<ℤ_}
 use Rattle.quorums.specs.Sum.{sum, sumIn}
-use Rattle.quorums.specs.Accounts.{Accounts, held, weight, total, weightIn, quorum, above}
+use Rattle.quorums.specs.Accounts.{Accounts, held, weight, total, quorum, above}
 use Rattle.quorums.specs.Published.{WeightedMajority, RpIntegrity, Line12}
-use Rattle.quorums.specs.Difference.{difference}
 use Rattle.quorums.proofs.Differences.{difference-less, difference-times, lt-difference}
 use Rattle.quorums.proofs.Weights.{weightIn-is, weights-total, quorum-is, above-is}
 

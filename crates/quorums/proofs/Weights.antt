@@ -3,15 +3,15 @@
 use Prim.Native.Nat.{ℕ, zero, suc, _+_, _-_, _*_, _≤_, _<_}
 use native.Mathlib.Nat.{add-zero, mul-assoc, mul-comm, mul-le-mul-right, le-of-mul-le-mul-right, add-mul}
 use native.Mathlib.Omega.{arith}
-use mathlib.Core.Path.{_≡_, refl, sym, ap, ap₂, _∙_}
+use mathlib.Core.Path.{_≡_, refl, sym, ap, _∙_}
 use mathlib.Core.Bool.{Bool, true, false, cond}
 use borrow.Author.Tests.{lt-ltb, ltb-true}
 use lib.Dec.{ltb}
-use lib.IntN.{ℤ, pos, _+ℤ_, _-ℤ_}
+use lib.IntN.{pos, _+ℤ_}
 use Rattle.quorums.specs.Sum.{sum, sumℤ, sumIn, size}
 use Rattle.quorums.specs.Difference.{difference}
 use Rattle.quorums.specs.Accounts.{Accounts, held, weight, total, weightIn, margin, quorum, above}
-use Rattle.quorums.proofs.Sums.{sum-add, sumIn-suc, sumIn-le, sumIn-add, sumIn-all, sumIn-const, sumIn-times, sum-same}
+use Rattle.quorums.proofs.Sums.{sum-add, sumIn-le, sumIn-add, sumIn-all, sumIn-const, sumIn-times, sum-same}
 use Rattle.quorums.proofs.Differences.{difference-add, difference-less, difference-same, difference-times, pos-difference, lt-difference}
 
 -- ---- plain sums

@@ -1,7 +1,7 @@
 -- Weights, the floor and quorums (paper 01, "Sheets"), of any form in which the transfers are kept: all that a weight depends on is what each
 -- server started with, received and gave.
 use Prim.Native.Nat.{ℕ, _+_, _-_, _*_}
-use mathlib.Core.Bool.{Bool, true, false, cond}
+use mathlib.Core.Bool.{Bool, cond}
 use lib.IntN.{ℤ, pos, _+ℤ_, _-ℤ_, _*ℤ_}
 use lib.Signed.{ltZ}
 use Rattle.quorums.specs.Sum.{sum, sumℤ}

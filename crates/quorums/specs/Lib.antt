@@ -1,3 +1,4 @@
+-- Definitions, in reading order: sums, the signed difference, weights and quorums, and the published rule.
 pub mod Sum
 pub mod Difference
 pub mod Accounts

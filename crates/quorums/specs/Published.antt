@@ -1,7 +1,7 @@
 -- The published restricted pairwise rule (source document 000), in whole numbers: its fraction W / (2(n − f)) is multiplied out.
 use Prim.Native.Nat.{ℕ, _+_, _-_, _*_, _<_}
 use mathlib.Core.Bool.{Bool, true}
-use lib.IntN.{ℤ, pos, _+ℤ_, _*ℤ_}
+use lib.IntN.{ℤ, pos, _*ℤ_}
 use lib.Signed.{_<ℤ_}
 use Rattle.quorums.specs.Accounts.{Accounts, weight, weightIn, total}
 

@@ -1,15 +1,13 @@
 -- Bad inputs of the cluster and the ledger, each with its number (paper 01, "Numbers handed out"), and numbers at the ends of their types, by
 -- computation.
-use Prim.Native.Nat.{ℕ, _+_, _-_, _*_, _^_}
+use Prim.Native.Nat.{ℕ, _-_, _^_}
 use mathlib.Core.Path.{_≡_, refl}
-use mathlib.Core.Bool.{Bool, true, false}
 use mathlib.Core.List.{_++_}
 use lib.IntN.{pos, negsuc}
 use lib.ListN.{replicate, set}
 use Rattle.quorums.specs.Sum.{size, sum, sumℤ, sumIn, all}
 use Rattle.quorums.specs.Difference.{difference}
-use Rattle.quorums.specs.Accounts.{weight, total, weightIn, margin, quorum, above}
-use Rattle.config.specs.Refusals.{numberOf}
+use Rattle.quorums.specs.Accounts.{weight, total, weightIn, margin, above}
 use Rattle.config.specs.Cluster.{configOf, validOf, serverOf, startOf, totalOf, aboveOf, leastOf, startAnswer, totalAnswer, leastAnswer, aboveAnswer}
 use Rattle.config.specs.declared.cluster.Config.{Config}
 use Rattle.config.specs.declared.answer.Refusal.{Refusal}
@@ -20,8 +18,8 @@ use Rattle.config.specs.declared.answer.Verdict.{Verdict}
 use Rattle.ledger.specs.declared.ledger.Ledger.{Ledger}
 use Rattle.ledger.specs.Ledgers.{freshLedger, givenOf, receivedOf, refused, accepted}
 use Rattle.ledger.specs.Maps.{named, mapOf, namedAnswer}
-use Rattle.ledger.specs.Weights.{weightOf, allOf, marginOf, quorumOf, givenAnswer, receivedAnswer, weightAnswer, allAnswer, marginAnswer, quorumAnswer}
-use Rattle.ledger.specs.Checks.{mayHold, totalFits, bounded, aboveFloor, boundsAnswer, floorAnswer, checkAnswer}
+use Rattle.ledger.specs.Weights.{weightOf, marginOf, givenAnswer, receivedAnswer, weightAnswer, marginAnswer, quorumAnswer}
+use Rattle.ledger.specs.Checks.{mayHold, totalFits, bounded, aboveFloor, floorAnswer, checkAnswer}
 use Rattle.ledger.specs.Tables.{run, table}
 use Rattle.ledger.specs.Joins.{agree, later, joins, joined, joinAnswer}
 use Rattle.ledger.specs.Changes.{lawful, roomFor, added, addAnswer}

@@ -11,8 +11,6 @@ use Rattle.quorums.specs.Difference.{difference}
 use Rattle.quorums.proofs.Differences.{pos-less, difference-mag}
 use Rattle.ledger.proofs.balance.difference.Statement.{statement}
 use Rattle.ledger.proofs.balance.difference.Tie as tie
-use Rattle.ledger.proofs.balance.difference.Reads as reads
-use Rattle.ledger.proofs.balance.difference.Lts as lts
 
 cast-result : tie.Need-cast-result
 cast-result c = search needs

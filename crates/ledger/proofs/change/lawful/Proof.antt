@@ -1,11 +1,8 @@
 -- `lawful` meets its contract, test by test.
-use borrow.Author.Needs.{needs}
 use borrow.Author.Tests.{eq-eqb, ne-eqb, le-ltb, lt-ltb}
 use Rattle.ledger.specs.Changes as X
 use Rattle.ledger.proofs.change.lawful.Statement.{statement}
 use Rattle.ledger.proofs.change.lawful.Tie as tie
-use Rattle.ledger.proofs.change.lawful.Reads as reads
-use Rattle.ledger.proofs.change.lawful.Lts as lts
 
 returns : tie.Need-returns
 unfolding X.lawful

@@ -1,17 +1,12 @@
 -- `room_for` meets its contract, test by test.
 use Prim.Native.Nat.{_≤_, _<_}
 use native.Mathlib.Omega.{arith}
-use mathlib.Core.Path.{_≡_, sym, ap, _∙_}
 use borrow.Author.Needs.{needs}
 use borrow.Author.Tests.{le-ltb, lt-ltb}
-use lib.Dec.{leb}
 use Rattle.ledger.specs.Changes.{roomFor}
 use Rattle.ledger.proofs.Changes.{room-left}
 use Rattle.ledger.proofs.change.room_for.Statement.{statement}
 use Rattle.ledger.proofs.change.room_for.Tie as tie
-use Rattle.ledger.proofs.change.room_for.Reads as reads
-use Rattle.ledger.proofs.change.room_for.Lts as lts
-use Rattle.ledger.proofs.ledger.wide.Reads as wide-reads
 
 returns : tie.Need-returns
 unfolding roomFor

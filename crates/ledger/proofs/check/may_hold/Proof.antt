@@ -1,14 +1,8 @@
 -- `may_hold` meets its contract, test by test.
-use native.Mathlib.Omega.{arith}
-use mathlib.Core.Path.{_≡_, sym, ap, _∙_}
-use mathlib.Core.Bool.{true, false, not}
-use borrow.Author.Needs.{needs}
 use borrow.Author.Tests.{eq-eqb, ne-eqb, le-ltb, lt-ltb}
 use Rattle.ledger.specs.Checks.{mayHold}
 use Rattle.ledger.proofs.check.may_hold.Statement.{statement}
 use Rattle.ledger.proofs.check.may_hold.Tie as tie
-use Rattle.ledger.proofs.check.may_hold.Reads as reads
-use Rattle.ledger.proofs.check.may_hold.Lts as lts
 
 returns : tie.Need-returns
 unfolding mayHold

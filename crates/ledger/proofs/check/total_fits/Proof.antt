@@ -1,15 +1,10 @@
 -- `total_fits` meets its contract, test by test.
-use native.Mathlib.Omega.{arith}
-use mathlib.Core.Path.{_≡_, sym, ap, _∙_}
-use mathlib.Core.Bool.{true, false, not}
+use mathlib.Core.Path.{sym}
 use borrow.Author.Needs.{needs}
 use borrow.Author.Tests.{lt-leb, le-leb}
 use Rattle.ledger.specs.Checks.{totalFits}
 use Rattle.ledger.proofs.check.total_fits.Statement.{statement}
 use Rattle.ledger.proofs.check.total_fits.Tie as tie
-use Rattle.ledger.proofs.check.total_fits.Reads as reads
-use Rattle.ledger.proofs.check.total_fits.Lts as lts
-use Rattle.ledger.proofs.ledger.wide16.Reads as wide16-reads
 
 wide16-requires : tie.Need-wide16-requires
 wide16-requires c κs = search needs

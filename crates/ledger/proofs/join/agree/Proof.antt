@@ -1,16 +1,8 @@
 -- `agree` meets its contract, test by test.
-use Prim.Native.Nat.{ℕ, _-_, _/_, _≤_, _<_}
-use native.Mathlib.Omega.{arith}
-use mathlib.Core.Path.{_≡_, sym, ap, _∙_}
-use mathlib.Core.Bool.{true, false, not}
-use borrow.Author.Needs.{needs}
 use borrow.Author.Tests.{lt-ltb, le-ltb}
-use Rattle.quorums.specs.Sum.{all}
 use Rattle.ledger.specs.Joins.{agree}
 use Rattle.ledger.proofs.join.agree.Statement.{statement}
 use Rattle.ledger.proofs.join.agree.Tie as tie
-use Rattle.ledger.proofs.join.agree.Reads as reads
-use Rattle.ledger.proofs.join.agree.Lts as lts
 
 returns : tie.Need-returns
 unfolding agree

@@ -1,6 +1,6 @@
 -- `count_named` meets its contract: a map within n has its ones below n.
 use native.Mathlib.Omega.{arith}
-use mathlib.Core.Path.{_≡_, sym, _∙_}
+use mathlib.Core.Path.{sym, _∙_}
 use borrow.Author.Needs.{needs}
 use borrow.Author.Tests.{not-true, not-false}
 use lib.Count.{ones-le}
@@ -8,9 +8,6 @@ use Rattle.ledger.specs.Maps.{namedAnswer}
 use Rattle.ledger.proofs.Maps.{ones-size, map-valid}
 use Rattle.ledger.proofs.map.count_named.Statement.{statement}
 use Rattle.ledger.proofs.map.count_named.Tie as tie
-use Rattle.ledger.proofs.map.count_named.Reads as reads
-use Rattle.ledger.proofs.map.count_named.Lts as lts
-use Rattle.ledger.proofs.map.within.Reads as within-reads
 
 within-requires : tie.Need-within-requires
 within-requires c κs = search needs

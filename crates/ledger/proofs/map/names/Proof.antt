@@ -4,8 +4,6 @@ use borrow.Author.Needs.{needs}
 use Rattle.ledger.specs.Maps.{named}
 use Rattle.ledger.proofs.map.names.Statement.{statement}
 use Rattle.ledger.proofs.map.names.Tie as tie
-use Rattle.ledger.proofs.map.names.Reads as reads
-use Rattle.ledger.proofs.map.names.Lts as lts
 
 cast-result : tie.Need-cast-result
 cast-result c = search needs

@@ -10,9 +10,6 @@ use Rattle.ledger.specs.Maps.{mapOf}
 use Rattle.ledger.proofs.Maps.{shifted-zero}
 use Rattle.ledger.proofs.map.within.Statement.{statement}
 use Rattle.ledger.proofs.map.within.Tie as tie
-use Rattle.ledger.proofs.map.within.Reads as reads
-use Rattle.ledger.proofs.map.within.Lts as lts
-use Rattle.config.proofs.cluster.Config.valid.Reads as valid-reads
 
 valid-requires : tie.Need-valid-requires
 valid-requires c κs = search needs

@@ -1,15 +1,12 @@
+-- `above_floor` meets its contract: a weight is above the floor exactly when it is no less than the least weight.
 use native.Mathlib.Omega.{arith}
 use mir.Facts.{toZ-ofZ}
-use mathlib.Core.Path.{sym, ap, _∙_}
+use mathlib.Core.Path.{sym, _∙_}
 use borrow.Author.Needs.{needs}
-use borrow.Author.Tests.{le-ltb, lt-leb, le-leb, lt-ltb, not-true, not-false}
-use Rattle.config.specs.Cluster.{validOf, serverOf, startOf, totalOf, leastOf, startAnswer, totalAnswer, leastAnswer, aboveAnswer}
-use Rattle.config.proofs.Clusters.{valid-bounds, total-is, total-small, least-small, total-told, total-refused, least-told, least-refused, above-not-less}
+use Rattle.config.specs.Cluster.{aboveAnswer}
+use Rattle.config.proofs.Clusters.{least-small, least-told, least-refused, above-not-less}
 use Rattle.config.proofs.cluster.Config.above_floor.Statement.{statement}
 use Rattle.config.proofs.cluster.Config.above_floor.Tie as tie
-use Rattle.config.proofs.cluster.Config.above_floor.Reads as reads
-use Rattle.config.proofs.cluster.Config.above_floor.Lts as lts
-use Rattle.config.proofs.cluster.Config.least.Reads as least-reads
 
 least-requires : tie.Need-least-requires
 least-requires c κs = search needs

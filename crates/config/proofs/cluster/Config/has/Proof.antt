@@ -1,12 +1,10 @@
+-- `has` meets its contract, test by test.
 use mathlib.Core.Path.{sym, _∙_}
 use borrow.Author.Needs.{needs}
 use borrow.Author.Tests.{not-true, not-false}
 use Rattle.config.specs.Cluster.{serverOf}
 use Rattle.config.proofs.cluster.Config.has.Statement.{statement}
 use Rattle.config.proofs.cluster.Config.has.Tie as tie
-use Rattle.config.proofs.cluster.Config.has.Reads as reads
-use Rattle.config.proofs.cluster.Config.has.Lts as lts
-use Rattle.config.proofs.cluster.Config.valid.Reads as valid-reads
 
 valid-requires : tie.Need-valid-requires
 valid-requires c κs = search needs

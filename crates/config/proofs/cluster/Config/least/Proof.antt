@@ -1,16 +1,13 @@
+-- `least` meets its contract: the total is there exactly for a valid cluster, where 2(n − f) is not 0.
 use Prim.Native.Nat.{_*_, _-_}
 use native.Mathlib.Nat.{div-le-self}
 use native.Mathlib.Omega.{arith}
-use mathlib.Core.Path.{sym, ap, _∙_}
+use mathlib.Core.Path.{sym, _∙_}
 use borrow.Author.Needs.{needs}
-use borrow.Author.Tests.{le-ltb, lt-leb, le-leb, lt-ltb, not-true, not-false}
-use Rattle.config.specs.Cluster.{validOf, serverOf, startOf, totalOf, leastOf, startAnswer, totalAnswer, leastAnswer, aboveAnswer}
-use Rattle.config.proofs.Clusters.{valid-bounds, total-is, total-small, least-small, total-told, total-refused, least-told, least-refused, above-least}
+use Rattle.config.specs.Cluster.{leastOf, leastAnswer}
+use Rattle.config.proofs.Clusters.{valid-bounds, total-small, total-told, total-refused}
 use Rattle.config.proofs.cluster.Config.least.Statement.{statement}
 use Rattle.config.proofs.cluster.Config.least.Tie as tie
-use Rattle.config.proofs.cluster.Config.least.Reads as reads
-use Rattle.config.proofs.cluster.Config.least.Lts as lts
-use Rattle.config.proofs.cluster.Config.total.Reads as total-reads
 
 total-requires : tie.Need-total-requires
 total-requires c κs = search needs

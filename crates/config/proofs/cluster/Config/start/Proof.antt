@@ -1,12 +1,10 @@
+-- `start` meets its contract, test by test.
 use mathlib.Core.Path.{sym, _∙_}
 use borrow.Author.Needs.{needs}
 use borrow.Author.Tests.{not-true, not-false}
 use Rattle.config.specs.Cluster.{startOf, startAnswer}
 use Rattle.config.proofs.cluster.Config.start.Statement.{statement}
 use Rattle.config.proofs.cluster.Config.start.Tie as tie
-use Rattle.config.proofs.cluster.Config.start.Reads as reads
-use Rattle.config.proofs.cluster.Config.start.Lts as lts
-use Rattle.config.proofs.cluster.Config.has.Reads as has-reads
 
 has-requires : tie.Need-has-requires
 has-requires c κs = search needs

@@ -1,14 +1,12 @@
+-- `total` meets its contract: n start weights, of at most 16 servers.
 use native.Mathlib.Omega.{arith}
-use mathlib.Core.Path.{sym, ap, _∙_}
+use mathlib.Core.Path.{sym, _∙_}
 use borrow.Author.Needs.{needs}
-use borrow.Author.Tests.{le-ltb, lt-leb, le-leb, lt-ltb, not-true, not-false}
-use Rattle.config.specs.Cluster.{validOf, serverOf, startOf, totalOf, leastOf, startAnswer, totalAnswer, leastAnswer, aboveAnswer}
-use Rattle.config.proofs.Clusters.{valid-bounds, total-is, total-small, least-small, total-told, total-refused, least-told, least-refused, above-least}
+use borrow.Author.Tests.{not-true, not-false}
+use Rattle.config.specs.Cluster.{totalAnswer}
+use Rattle.config.proofs.Clusters.{valid-bounds, total-is}
 use Rattle.config.proofs.cluster.Config.total.Statement.{statement}
 use Rattle.config.proofs.cluster.Config.total.Tie as tie
-use Rattle.config.proofs.cluster.Config.total.Reads as reads
-use Rattle.config.proofs.cluster.Config.total.Lts as lts
-use Rattle.config.proofs.cluster.Config.valid.Reads as valid-reads
 
 valid-requires : tie.Need-valid-requires
 valid-requires c κs = search needs

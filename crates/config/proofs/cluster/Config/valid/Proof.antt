@@ -1,14 +1,11 @@
+-- `valid` meets its contract: f ≥ n is out of bounds too, so that 2f does not wrap.
 use Prim.Native.Nat.{_*_, _≤_}
 use native.Mathlib.Omega.{arith}
-use mathlib.Core.Path.{sym, ap, _∙_}
 use borrow.Author.Needs.{needs}
-use borrow.Author.Tests.{le-ltb, lt-leb, le-leb, lt-ltb, not-true, not-false}
-use Rattle.config.specs.Cluster.{validOf, serverOf, startOf, totalOf, leastOf, startAnswer, totalAnswer, leastAnswer, aboveAnswer}
-use Rattle.config.proofs.Clusters.{valid-bounds, total-is, total-small, least-small, total-told, total-refused, least-told, least-refused, above-least}
+use borrow.Author.Tests.{le-ltb, lt-leb, le-leb}
+use Rattle.config.specs.Cluster.{validOf}
 use Rattle.config.proofs.cluster.Config.valid.Statement.{statement}
 use Rattle.config.proofs.cluster.Config.valid.Tie as tie
-use Rattle.config.proofs.cluster.Config.valid.Reads as reads
-use Rattle.config.proofs.cluster.Config.valid.Lts as lts
 
 returns : tie.Need-returns
 unfolding validOf

@@ -1,23 +1,19 @@
 -- `above_floor` meets its contract: every server before i is above the floor.
 use native.Mathlib.Omega.{arith}
 use mathlib.Core.Path.{_≡_, sym, ap, _∙_}
-use mathlib.Core.Bool.{true, false, not}
+use mathlib.Core.Bool.{true}
 use borrow.Author.Needs.{needs}
 use borrow.Author.Tests.{lt-leb, le-leb}
 use lib.Dec.{leb}
 use Prim.Native.Nat.{_+_, _-_, _≤_}
 use Rattle.quorums.specs.Sum.{all}
 use Rattle.quorums.proofs.Sums.{all-none, all-next, all-fails}
-use Rattle.config.specs.Cluster.{validOf, aboveOf}
-use Rattle.config.proofs.Clusters.{valid-bounds, valid-server, least-small, above-least}
-use Rattle.ledger.specs.Weights.{weightOf}
+use Rattle.config.specs.Cluster.{aboveOf}
+use Rattle.config.proofs.Clusters.{valid-server, least-small, above-least}
 use Rattle.ledger.specs.Checks.{aboveFloor, serverAbove}
 use Rattle.ledger.proofs.Answers.{weight-balance}
 use Rattle.ledger.proofs.ledger.Ledger.above_floor.Statement.{statement}
 use Rattle.ledger.proofs.ledger.Ledger.above_floor.Tie as tie
-use Rattle.ledger.proofs.ledger.Ledger.above_floor.Reads as reads
-use Rattle.ledger.proofs.ledger.Ledger.above_floor.Lts as lts
-use Rattle.ledger.proofs.ledger.Ledger.balance.Reads as balance-reads
 
 abbrev Inv-loop : tie.InvT-loop
 Inv-loop self config least n i₀ i = (i ≤ config .n) × (all i (serverAbove config self) ≡ true)

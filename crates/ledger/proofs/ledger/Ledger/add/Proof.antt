@@ -1,7 +1,7 @@
 -- `add` meets its contract, test by test: a giver and a taker of the cluster have their places among the 16 counts and the 256 cells.
-use Prim.Native.Nat.{_+_, _*_, _≤_, _<_}
+use Prim.Native.Nat.{_+_, _≤_, _<_}
 use native.Mathlib.Omega.{arith}
-use mathlib.Core.Path.{_≡_, sym, _∙_}
+use mathlib.Core.Path.{sym, _∙_}
 use borrow.Author.Needs.{needs}
 use borrow.Author.Tests.{not-true, not-false}
 use Rattle.config.proofs.Clusters.{server-valid, valid-bounds}
@@ -10,12 +10,6 @@ use Rattle.ledger.specs.Changes.{added, addAnswer}
 use Rattle.ledger.proofs.Changes.{lawful-told, room-told}
 use Rattle.ledger.proofs.ledger.Ledger.add.Statement.{statement}
 use Rattle.ledger.proofs.ledger.Ledger.add.Tie as tie
-use Rattle.ledger.proofs.ledger.Ledger.add.Reads as reads
-use Rattle.ledger.proofs.ledger.Ledger.add.Lts as lts
-use Rattle.config.proofs.cluster.Config.has.Reads as has-reads
-use Rattle.ledger.proofs.change.lawful.Reads as lawful-reads
-use Rattle.ledger.proofs.change.room_for.Reads as room-for-reads
-use Rattle.ledger.proofs.ledger.Ledger.refused.Reads as refused-reads
 
 has-requires : tie.Need-has-requires
 has-requires c κs = search needs

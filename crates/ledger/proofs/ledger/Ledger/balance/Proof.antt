@@ -1,18 +1,14 @@
 -- `balance` meets its contract: the server's column and its row, beside its start weight.
-use Prim.Native.Nat.{ℕ, _+_, _<_}
+use Prim.Native.Nat.{ℕ, _+_}
 use mathlib.Core.Bool.{true, false}
 use native.Mathlib.Omega.{arith}
 use mathlib.Core.Path.{_≡_, sym, ap₂, _∙_}
 use borrow.Author.Needs.{needs}
-use Rattle.config.specs.Cluster.{startOf, serverOf}
-use Rattle.config.proofs.Clusters.{valid-bounds, server-valid, server-small, start-small, start-told, start-refused}
+use Rattle.config.specs.Cluster.{startOf}
+use Rattle.config.proofs.Clusters.{server-small, start-small, start-told, start-refused}
 use Rattle.ledger.proofs.Lines.{given-line, received-line}
 use Rattle.ledger.proofs.ledger.Ledger.balance.Statement.{statement}
 use Rattle.ledger.proofs.ledger.Ledger.balance.Tie as tie
-use Rattle.ledger.proofs.ledger.Ledger.balance.Reads as reads
-use Rattle.ledger.proofs.ledger.Ledger.balance.Lts as lts
-use Rattle.config.proofs.cluster.Config.start.Reads as start-reads
-use Rattle.ledger.proofs.ledger.Ledger.line.Reads as line-reads
 
 start-requires : tie.Need-start-requires
 start-requires c κs = search needs

@@ -11,9 +11,6 @@ use Rattle.ledger.specs.Ledgers.{accountsOf, givenOf}
 use Rattle.ledger.specs.Maps.{named}
 use Rattle.ledger.proofs.ledger.Ledger.balance_in.Statement.{statement}
 use Rattle.ledger.proofs.ledger.Ledger.balance_in.Tie as tie
-use Rattle.ledger.proofs.ledger.Ledger.balance_in.Reads as reads
-use Rattle.ledger.proofs.ledger.Ledger.balance_in.Lts as lts
-use Rattle.ledger.proofs.ledger.Ledger.balance_named.Reads as balance-named-reads
 
 abbrev Inv-loop : tie.InvT-loop
 Inv-loop self config map n held₀ given₀ i₀ held given i =

@@ -1,16 +1,10 @@
 -- `balance_named` meets its contract, by whether the map names the server.
-use mathlib.Core.Bool.{cond}
 use native.Mathlib.Omega.{arith}
-use mathlib.Core.Path.{_≡_, sym, _∙_}
+use mathlib.Core.Path.{sym, _∙_}
 use borrow.Author.Needs.{needs}
 use Rattle.config.proofs.Clusters.{server-small}
-use Rattle.ledger.specs.Maps.{named}
 use Rattle.ledger.proofs.ledger.Ledger.balance_named.Statement.{statement}
 use Rattle.ledger.proofs.ledger.Ledger.balance_named.Tie as tie
-use Rattle.ledger.proofs.ledger.Ledger.balance_named.Reads as reads
-use Rattle.ledger.proofs.ledger.Ledger.balance_named.Lts as lts
-use Rattle.ledger.proofs.ledger.Ledger.balance.Reads as balance-reads
-use Rattle.ledger.proofs.map.names.Reads as names-reads
 
 names-requires : tie.Need-names-requires
 names-requires c κs = server-small _ _ (c .pre)

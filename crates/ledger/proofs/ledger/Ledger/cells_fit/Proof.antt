@@ -1,7 +1,7 @@
 -- `cells_fit` meets its contract: every cell before k fits.
 use native.Mathlib.Omega.{arith}
-use mathlib.Core.Path.{_≡_, sym, ap, _∙_}
-use mathlib.Core.Bool.{true, false, not}
+use mathlib.Core.Path.{_≡_, sym, _∙_}
+use mathlib.Core.Bool.{true}
 use borrow.Author.Needs.{needs}
 use borrow.Author.Tests.{not-true, not-false}
 use Prim.Native.Nat.{_-_, _≤_}
@@ -10,9 +10,6 @@ use Rattle.quorums.proofs.Sums.{all-none, all-next, all-fails}
 use Rattle.ledger.specs.Checks.{cellFits}
 use Rattle.ledger.proofs.ledger.Ledger.cells_fit.Statement.{statement}
 use Rattle.ledger.proofs.ledger.Ledger.cells_fit.Tie as tie
-use Rattle.ledger.proofs.ledger.Ledger.cells_fit.Reads as reads
-use Rattle.ledger.proofs.ledger.Ledger.cells_fit.Lts as lts
-use Rattle.ledger.proofs.check.may_hold.Reads as may-hold-reads
 
 abbrev Inv-loop : tie.InvT-loop
 Inv-loop n self k₀ k = (k ≤ 256) × (all k (cellFits n self) ≡ true)

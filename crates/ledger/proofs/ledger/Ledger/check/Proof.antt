@@ -4,10 +4,6 @@ use borrow.Author.Needs.{needs}
 use Rattle.ledger.proofs.Checks as C
 use Rattle.ledger.proofs.ledger.Ledger.check.Statement.{statement}
 use Rattle.ledger.proofs.ledger.Ledger.check.Tie as tie
-use Rattle.ledger.proofs.ledger.Ledger.check.Reads as reads
-use Rattle.ledger.proofs.ledger.Ledger.check.Lts as lts
-use Rattle.ledger.proofs.ledger.Ledger.check_bounds.Reads as check-bounds-reads
-use Rattle.ledger.proofs.ledger.Ledger.check_floor.Reads as check-floor-reads
 
 check-bounds-requires : tie.Need-check-bounds-requires
 check-bounds-requires c κs = search needs

@@ -1,15 +1,10 @@
 -- `check_bounds` meets its contract, test by test.
-use mathlib.Core.Path.{_≡_, sym, ap, _∙_}
+use mathlib.Core.Path.{sym, _∙_}
 use borrow.Author.Needs.{needs}
 use borrow.Author.Tests.{not-true, not-false}
 use Rattle.ledger.specs.Checks.{bounded, boundsAnswer}
 use Rattle.ledger.proofs.ledger.Ledger.check_bounds.Statement.{statement}
 use Rattle.ledger.proofs.ledger.Ledger.check_bounds.Tie as tie
-use Rattle.ledger.proofs.ledger.Ledger.check_bounds.Reads as reads
-use Rattle.ledger.proofs.ledger.Ledger.check_bounds.Lts as lts
-use Rattle.config.proofs.cluster.Config.valid.Reads as valid-reads
-use Rattle.ledger.proofs.ledger.Ledger.cells_fit.Reads as cells-fit-reads
-use Rattle.ledger.proofs.ledger.Ledger.rows_fit.Reads as rows-fit-reads
 
 valid-requires : tie.Need-valid-requires
 valid-requires c κs = search needs

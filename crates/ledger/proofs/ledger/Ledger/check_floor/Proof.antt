@@ -1,15 +1,11 @@
 -- `check_floor` meets its contract: the least weight is there exactly for a valid cluster.
-use mathlib.Core.Path.{_≡_, sym, ap, _∙_}
+use mathlib.Core.Path.{sym, _∙_}
 use borrow.Author.Needs.{needs}
 use borrow.Author.Tests.{not-true, not-false}
 use Rattle.config.proofs.Clusters.{least-told, least-refused}
 use Rattle.ledger.specs.Checks.{floorAnswer}
 use Rattle.ledger.proofs.ledger.Ledger.check_floor.Statement.{statement}
 use Rattle.ledger.proofs.ledger.Ledger.check_floor.Tie as tie
-use Rattle.ledger.proofs.ledger.Ledger.check_floor.Reads as reads
-use Rattle.ledger.proofs.ledger.Ledger.check_floor.Lts as lts
-use Rattle.config.proofs.cluster.Config.least.Reads as least-reads
-use Rattle.ledger.proofs.ledger.Ledger.above_floor.Reads as above-floor-reads
 
 least-requires : tie.Need-least-requires
 least-requires c κs = search needs

@@ -5,10 +5,6 @@ use borrow.Author.Tests.{not-true, not-false}
 use Rattle.ledger.specs.Joins as J
 use Rattle.ledger.proofs.ledger.Ledger.equal.Statement.{statement}
 use Rattle.ledger.proofs.ledger.Ledger.equal.Tie as tie
-use Rattle.ledger.proofs.ledger.Ledger.equal.Reads as reads
-use Rattle.ledger.proofs.ledger.Ledger.equal.Lts as lts
-use Rattle.ledger.proofs.ledger.Ledger.same_cells.Reads as same-cells-reads
-use Rattle.ledger.proofs.ledger.Ledger.same_counts.Reads as same-counts-reads
 
 same-counts-requires : tie.Need-same-counts-requires
 same-counts-requires c κs = search needs

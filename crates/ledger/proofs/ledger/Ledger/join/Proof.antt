@@ -8,12 +8,6 @@ use Rattle.ledger.specs.Joins.{joined, joinAnswer}
 use Rattle.ledger.specs.Ledgers.{accepted}
 use Rattle.ledger.proofs.ledger.Ledger.join.Statement.{statement}
 use Rattle.ledger.proofs.ledger.Ledger.join.Tie as tie
-use Rattle.ledger.proofs.ledger.Ledger.join.Reads as reads
-use Rattle.ledger.proofs.ledger.Ledger.join.Lts as lts
-use Rattle.ledger.proofs.ledger.Ledger.joins.Reads as joins-reads
-use Rattle.ledger.proofs.ledger.Ledger.larger_counts.Reads as larger-counts-reads
-use Rattle.ledger.proofs.ledger.Ledger.later_cells.Reads as later-cells-reads
-use Rattle.ledger.proofs.ledger.Ledger.refused.Reads as refused-reads
 
 joins-requires : tie.Need-joins-requires
 joins-requires c κs = search needs

@@ -1,8 +1,8 @@
 -- `joins` meets its contract: every cell before k agrees.
-use Prim.Native.Nat.{ℕ, _-_, _/_, _≤_, _<_}
+use Prim.Native.Nat.{_-_, _≤_}
 use native.Mathlib.Omega.{arith}
-use mathlib.Core.Path.{_≡_, sym, ap, _∙_}
-use mathlib.Core.Bool.{true, false, not}
+use mathlib.Core.Path.{_≡_, sym, _∙_}
+use mathlib.Core.Bool.{true}
 use borrow.Author.Needs.{needs}
 use borrow.Author.Tests.{not-true, not-false}
 use Rattle.quorums.specs.Sum.{all}
@@ -11,9 +11,6 @@ use Rattle.ledger.specs.Joins.{agreeAt}
 use Rattle.ledger.specs.Joins as J
 use Rattle.ledger.proofs.ledger.Ledger.joins.Statement.{statement}
 use Rattle.ledger.proofs.ledger.Ledger.joins.Tie as tie
-use Rattle.ledger.proofs.ledger.Ledger.joins.Reads as reads
-use Rattle.ledger.proofs.ledger.Ledger.joins.Lts as lts
-use Rattle.ledger.proofs.join.agree.Reads as agree-reads
 
 abbrev Inv-loop : tie.InvT-loop
 Inv-loop self other k₀ k = (k ≤ 256) × (all k (agreeAt self other) ≡ true)

@@ -1,8 +1,8 @@
 -- `lacks` meets its contract: this ledger has the transfers of every giver before i.
-use Prim.Native.Nat.{ℕ, _-_, _/_, _≤_, _<_}
+use Prim.Native.Nat.{_-_, _≤_}
 use native.Mathlib.Omega.{arith}
-use mathlib.Core.Path.{_≡_, sym, ap, _∙_}
-use mathlib.Core.Bool.{true, false, not}
+use mathlib.Core.Path.{_≡_, sym, ap}
+use mathlib.Core.Bool.{true, not}
 use borrow.Author.Needs.{needs}
 use borrow.Author.Tests.{le-leb, lt-leb}
 use Rattle.quorums.specs.Sum.{all}
@@ -11,8 +11,6 @@ use Rattle.ledger.specs.Joins.{hasAt}
 use Rattle.ledger.specs.Joins as J
 use Rattle.ledger.proofs.ledger.Ledger.lacks.Statement.{statement}
 use Rattle.ledger.proofs.ledger.Ledger.lacks.Tie as tie
-use Rattle.ledger.proofs.ledger.Ledger.lacks.Reads as reads
-use Rattle.ledger.proofs.ledger.Ledger.lacks.Lts as lts
 
 abbrev Inv-loop : tie.InvT-loop
 Inv-loop self other i₀ i = (i ≤ 16) × (all i (hasAt self other) ≡ true)

@@ -1,20 +1,13 @@
 -- `larger_counts` meets its contract: every count before i is the larger one.
-use Prim.Native.Nat.{ℕ, _-_, _/_, _≤_, _<_}
+use Prim.Native.Nat.{ℕ, _-_, _≤_, _<_}
 use native.Mathlib.Omega.{arith}
-use mathlib.Core.Path.{_≡_, refl, sym, ap, _∙_}
-use mathlib.Core.Bool.{true, false, not}
+use mathlib.Core.Path.{_≡_, refl}
 use borrow.Author.Needs.{needs}
-use borrow.Author.Tests.{not-true}
-use Rattle.quorums.specs.Sum.{all}
 use lib.ListN.{length, getD, length-set}
-use Rattle.ledger.specs.Tables.{table}
 use Rattle.ledger.proofs.Tables.{is-table, filled-next}
 use Rattle.ledger.specs.Joins.{largerAt}
 use Rattle.ledger.proofs.ledger.Ledger.larger_counts.Statement.{statement}
 use Rattle.ledger.proofs.ledger.Ledger.larger_counts.Tie as tie
-use Rattle.ledger.proofs.ledger.Ledger.larger_counts.Reads as reads
-use Rattle.ledger.proofs.ledger.Ledger.larger_counts.Lts as lts
-use Rattle.ledger.proofs.join.larger.Reads as larger-reads
 
 abbrev Inv-loop : tie.InvT-loop
 Inv-loop self other counts₀ i₀ counts i = (i ≤ 16) × (length counts ≡ 16) × ((m : ℕ) → m < i → getD counts m 0 ≡ largerAt self other m)

@@ -1,20 +1,13 @@
 -- `later_cells` meets its contract: every cell before k is that of the later row.
-use Prim.Native.Nat.{ℕ, _-_, _/_, _≤_, _<_}
+use Prim.Native.Nat.{ℕ, _-_, _≤_, _<_}
 use native.Mathlib.Omega.{arith}
-use mathlib.Core.Path.{_≡_, refl, sym, ap, _∙_}
-use mathlib.Core.Bool.{true, false, not}
+use mathlib.Core.Path.{_≡_, refl}
 use borrow.Author.Needs.{needs}
-use borrow.Author.Tests.{not-true}
-use Rattle.quorums.specs.Sum.{all}
 use lib.ListN.{length, getD, length-set}
-use Rattle.ledger.specs.Tables.{table}
 use Rattle.ledger.proofs.Tables.{is-table, filled-next}
 use Rattle.ledger.specs.Joins.{laterAt}
 use Rattle.ledger.proofs.ledger.Ledger.later_cells.Statement.{statement}
 use Rattle.ledger.proofs.ledger.Ledger.later_cells.Tie as tie
-use Rattle.ledger.proofs.ledger.Ledger.later_cells.Reads as reads
-use Rattle.ledger.proofs.ledger.Ledger.later_cells.Lts as lts
-use Rattle.ledger.proofs.join.later.Reads as later-reads
 
 abbrev Inv-loop : tie.InvT-loop
 Inv-loop self other cells₀ k₀ cells k = (k ≤ 256) × (length cells ≡ 256) × ((m : ℕ) → m < k → getD cells m 0 ≡ laterAt self other m)

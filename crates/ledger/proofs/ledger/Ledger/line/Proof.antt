@@ -1,16 +1,12 @@
 -- `line` meets its contract: after k turns the total is the sum of the first k cells of the line, each below 2 ^ 32.
-use Prim.Native.Nat.{ℕ, _+_, _*_, _-_, _≤_, _<_}
-use native.Mathlib.Nat.{mul-le-mul-right}
+use Prim.Native.Nat.{_+_, _*_, _-_, _≤_, _<_}
 use native.Mathlib.Omega.{arith}
 use mathlib.Core.Path.{_≡_, sym, ap, ap₂, _∙_}
 use borrow.Author.Needs.{needs}
-use lib.ListN.{getD}
 use Rattle.ledger.specs.Ledgers.{lineOf}
 use Rattle.ledger.proofs.Lines.{line-none, line-next, line-within}
 use Rattle.ledger.proofs.ledger.Ledger.line.Statement.{statement}
 use Rattle.ledger.proofs.ledger.Ledger.line.Tie as tie
-use Rattle.ledger.proofs.ledger.Ledger.line.Reads as reads
-use Rattle.ledger.proofs.ledger.Ledger.line.Lts as lts
 
 abbrev Inv-loop : tie.InvT-loop
 Inv-loop from step self total₀ k₀ total k = (k ≤ 16) × (total ≡ lineOf self from step k) × (total ≤ k * 4294967295)

@@ -5,7 +5,7 @@ use mathlib.Core.Path.{_≡_, sym, ap, _∙_}
 use mathlib.Core.Bool.{true, false}
 use borrow.Author.Needs.{needs}
 use borrow.Author.Tests.{not-true, not-false}
-use Rattle.config.specs.Cluster.{validOf, totalOf}
+use Rattle.config.specs.Cluster.{totalOf}
 use Rattle.config.proofs.Clusters.{total-small, total-told, total-refused}
 use Rattle.quorums.specs.Difference.{difference}
 use Rattle.config.specs.declared.answer.Signed.{Signed}
@@ -15,12 +15,6 @@ use Rattle.ledger.proofs.Maps.{map-valid}
 use Rattle.ledger.proofs.Answers.{read-back, margin-balance}
 use Rattle.ledger.proofs.ledger.Ledger.margin.Statement.{statement}
 use Rattle.ledger.proofs.ledger.Ledger.margin.Tie as tie
-use Rattle.ledger.proofs.ledger.Ledger.margin.Reads as reads
-use Rattle.ledger.proofs.ledger.Ledger.margin.Lts as lts
-use Rattle.config.proofs.cluster.Config.total.Reads as total-reads
-use Rattle.ledger.proofs.balance.difference.Reads as difference-reads
-use Rattle.ledger.proofs.ledger.Ledger.balance_in.Reads as balance-in-reads
-use Rattle.ledger.proofs.map.within.Reads as within-reads
 
 within-requires : tie.Need-within-requires
 within-requires c κs = search needs

@@ -1,22 +1,14 @@
 -- `merge` meets its contract: a join that is accepted is checked against the floor.
-use mathlib.Core.Path.{_≡_, sym, ap, _∙_}
-use mathlib.Core.Bool.{true}
+use mathlib.Core.Path.{sym, ap, _∙_}
 use borrow.Author.Needs.{needs}
 use borrow.Author.Tests.{not-true, not-false}
-use Rattle.config.specs.Cluster.{validOf}
-use Rattle.ledger.specs.Checks.{aboveFloor, floorAnswer}
+use Rattle.ledger.specs.Checks.{aboveFloor}
 use Rattle.ledger.specs.Joins.{mergeAnswer}
 use Rattle.ledger.specs.Ledgers.{accepted}
 use Rattle.ledger.proofs.Checks.{floor-told, floor-refused}
 use Rattle.ledger.proofs.Joins.{join-told, join-refused}
 use Rattle.ledger.proofs.ledger.Ledger.merge.Statement.{statement}
 use Rattle.ledger.proofs.ledger.Ledger.merge.Tie as tie
-use Rattle.ledger.proofs.ledger.Ledger.merge.Reads as reads
-use Rattle.ledger.proofs.ledger.Ledger.merge.Lts as lts
-use Rattle.config.proofs.cluster.Config.valid.Reads as valid-reads
-use Rattle.ledger.proofs.ledger.Ledger.check_floor.Reads as check-floor-reads
-use Rattle.ledger.proofs.ledger.Ledger.join.Reads as join-reads
-use Rattle.ledger.proofs.ledger.Ledger.refused.Reads as refused-reads
 
 valid-requires : tie.Need-valid-requires
 valid-requires c κs = search needs

@@ -1,16 +1,10 @@
 -- `quorum` meets its contract: it is the sign of the margin.
-use native.Mathlib.Omega.{arith}
-use mathlib.Core.Path.{_≡_, sym, ap, _∙_}
-use mathlib.Core.Bool.{true}
+use mathlib.Core.Path.{sym, _∙_}
 use borrow.Author.Needs.{needs}
-use borrow.Author.Tests.{not-true, not-false}
 use Rattle.ledger.specs.Weights.{quorumAnswer}
 use Rattle.ledger.proofs.Answers.{read-back, quorum-margin, margin-told, margin-refused}
 use Rattle.ledger.proofs.ledger.Ledger.quorum.Statement.{statement}
 use Rattle.ledger.proofs.ledger.Ledger.quorum.Tie as tie
-use Rattle.ledger.proofs.ledger.Ledger.quorum.Reads as reads
-use Rattle.ledger.proofs.ledger.Ledger.quorum.Lts as lts
-use Rattle.ledger.proofs.ledger.Ledger.margin.Reads as margin-reads
 
 margin-requires : tie.Need-margin-requires
 margin-requires c κs = search needs

@@ -1,7 +1,6 @@
 -- `received` meets its contract: what a server received is its column.
 use native.Mathlib.Omega.{arith}
-use mathlib.Core.Path.{_≡_, sym, ap, _∙_}
-use mathlib.Core.Bool.{true}
+use mathlib.Core.Path.{sym, _∙_}
 use borrow.Author.Needs.{needs}
 use borrow.Author.Tests.{not-true, not-false}
 use Rattle.config.proofs.Clusters.{server-small}
@@ -9,10 +8,6 @@ use Rattle.ledger.specs.Weights.{receivedAnswer}
 use Rattle.ledger.proofs.Lines.{received-line}
 use Rattle.ledger.proofs.ledger.Ledger.received.Statement.{statement}
 use Rattle.ledger.proofs.ledger.Ledger.received.Tie as tie
-use Rattle.ledger.proofs.ledger.Ledger.received.Reads as reads
-use Rattle.ledger.proofs.ledger.Ledger.received.Lts as lts
-use Rattle.config.proofs.cluster.Config.has.Reads as has-reads
-use Rattle.ledger.proofs.ledger.Ledger.line.Reads as line-reads
 
 has-requires : tie.Need-has-requires
 has-requires c κs = search needs

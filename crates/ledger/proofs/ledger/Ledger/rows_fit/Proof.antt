@@ -1,21 +1,16 @@
 -- `rows_fit` meets its contract: every row before i fits.
 use native.Mathlib.Omega.{arith}
 use mathlib.Core.Path.{_≡_, sym, ap, _∙_}
-use mathlib.Core.Bool.{true, false, not}
+use mathlib.Core.Bool.{true}
 use borrow.Author.Needs.{needs}
 use borrow.Author.Tests.{not-true, not-false}
 use Prim.Native.Nat.{_-_, _≤_}
 use Rattle.quorums.specs.Sum.{all}
 use Rattle.quorums.proofs.Sums.{all-none, all-next, all-fails}
-use Rattle.ledger.specs.Ledgers.{countOf, givenOf}
 use Rattle.ledger.specs.Checks.{totalFits, rowFits}
 use Rattle.ledger.proofs.Lines.{given-line}
 use Rattle.ledger.proofs.ledger.Ledger.rows_fit.Statement.{statement}
 use Rattle.ledger.proofs.ledger.Ledger.rows_fit.Tie as tie
-use Rattle.ledger.proofs.ledger.Ledger.rows_fit.Reads as reads
-use Rattle.ledger.proofs.ledger.Ledger.rows_fit.Lts as lts
-use Rattle.ledger.proofs.check.total_fits.Reads as total-fits-reads
-use Rattle.ledger.proofs.ledger.Ledger.line.Reads as line-reads
 
 abbrev Inv-loop : tie.InvT-loop
 Inv-loop self i₀ i = (i ≤ 16) × (all i (rowFits self) ≡ true)

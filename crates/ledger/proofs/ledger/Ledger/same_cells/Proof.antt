@@ -1,8 +1,8 @@
 -- `same_cells` meets its contract: every cell before k is the same.
-use Prim.Native.Nat.{ℕ, _-_, _/_, _≤_, _<_}
+use Prim.Native.Nat.{_-_, _≤_}
 use native.Mathlib.Omega.{arith}
-use mathlib.Core.Path.{_≡_, sym, ap, _∙_}
-use mathlib.Core.Bool.{true, false, not}
+use mathlib.Core.Path.{_≡_, sym}
+use mathlib.Core.Bool.{true}
 use borrow.Author.Needs.{needs}
 use borrow.Author.Tests.{eq-eqb, ne-eqb}
 use Rattle.quorums.specs.Sum.{all}
@@ -10,8 +10,6 @@ use Rattle.quorums.proofs.Sums.{all-none, all-next, all-fails}
 use Rattle.ledger.specs.Joins.{sameCellAt}
 use Rattle.ledger.proofs.ledger.Ledger.same_cells.Statement.{statement}
 use Rattle.ledger.proofs.ledger.Ledger.same_cells.Tie as tie
-use Rattle.ledger.proofs.ledger.Ledger.same_cells.Reads as reads
-use Rattle.ledger.proofs.ledger.Ledger.same_cells.Lts as lts
 
 abbrev Inv-loop : tie.InvT-loop
 Inv-loop self other k₀ k = (k ≤ 256) × (all k (sameCellAt self other) ≡ true)

@@ -1,8 +1,8 @@
 -- `same_counts` meets its contract: every count before i is the same.
-use Prim.Native.Nat.{ℕ, _-_, _/_, _≤_, _<_}
+use Prim.Native.Nat.{_-_, _≤_}
 use native.Mathlib.Omega.{arith}
-use mathlib.Core.Path.{_≡_, sym, ap, _∙_}
-use mathlib.Core.Bool.{true, false, not}
+use mathlib.Core.Path.{_≡_, sym}
+use mathlib.Core.Bool.{true}
 use borrow.Author.Needs.{needs}
 use borrow.Author.Tests.{eq-eqb, ne-eqb}
 use Rattle.quorums.specs.Sum.{all}
@@ -10,8 +10,6 @@ use Rattle.quorums.proofs.Sums.{all-none, all-next, all-fails}
 use Rattle.ledger.specs.Joins.{sameCountAt}
 use Rattle.ledger.proofs.ledger.Ledger.same_counts.Statement.{statement}
 use Rattle.ledger.proofs.ledger.Ledger.same_counts.Tie as tie
-use Rattle.ledger.proofs.ledger.Ledger.same_counts.Reads as reads
-use Rattle.ledger.proofs.ledger.Ledger.same_counts.Lts as lts
 
 abbrev Inv-loop : tie.InvT-loop
 Inv-loop self other i₀ i = (i ≤ 16) × (all i (sameCountAt self other) ≡ true)

@@ -1,7 +1,5 @@
 -- `weight` meets its contract: the difference of the two sides of the balance.
-use native.Mathlib.Omega.{arith}
-use mathlib.Core.Path.{_≡_, sym, ap, _∙_}
-use mathlib.Core.Bool.{true}
+use mathlib.Core.Path.{sym, ap, _∙_}
 use borrow.Author.Needs.{needs}
 use borrow.Author.Tests.{not-true, not-false}
 use Rattle.config.specs.declared.answer.Signed.{Signed}
@@ -9,11 +7,6 @@ use Rattle.ledger.specs.Weights.{weightAnswer}
 use Rattle.ledger.proofs.Answers.{read-back, weight-balance}
 use Rattle.ledger.proofs.ledger.Ledger.weight.Statement.{statement}
 use Rattle.ledger.proofs.ledger.Ledger.weight.Tie as tie
-use Rattle.ledger.proofs.ledger.Ledger.weight.Reads as reads
-use Rattle.ledger.proofs.ledger.Ledger.weight.Lts as lts
-use Rattle.config.proofs.cluster.Config.has.Reads as has-reads
-use Rattle.ledger.proofs.balance.difference.Reads as difference-reads
-use Rattle.ledger.proofs.ledger.Ledger.balance.Reads as balance-reads
 
 has-requires : tie.Need-has-requires
 has-requires c κs = search needs

@@ -1,20 +1,12 @@
 -- `weight_of_all` meets its contract: the map of all ones names every server.
-use native.Mathlib.Omega.{arith}
-use mathlib.Core.Path.{_≡_, sym, ap, _∙_}
-use mathlib.Core.Bool.{true}
+use mathlib.Core.Path.{sym, ap, _∙_}
 use borrow.Author.Needs.{needs}
 use borrow.Author.Tests.{not-true, not-false}
-use Rattle.config.specs.Cluster.{validOf}
 use Rattle.config.specs.declared.answer.Signed.{Signed}
 use Rattle.ledger.specs.Weights.{allAnswer}
 use Rattle.ledger.proofs.Answers.{read-back, all-balance}
 use Rattle.ledger.proofs.ledger.Ledger.weight_of_all.Statement.{statement}
 use Rattle.ledger.proofs.ledger.Ledger.weight_of_all.Tie as tie
-use Rattle.ledger.proofs.ledger.Ledger.weight_of_all.Reads as reads
-use Rattle.ledger.proofs.ledger.Ledger.weight_of_all.Lts as lts
-use Rattle.config.proofs.cluster.Config.valid.Reads as valid-reads
-use Rattle.ledger.proofs.balance.difference.Reads as difference-reads
-use Rattle.ledger.proofs.ledger.Ledger.balance_in.Reads as balance-in-reads
 
 valid-requires : tie.Need-valid-requires
 valid-requires c κs = search needs
