@@ -1,4 +1,4 @@
--- Laws. `Totals`, `Majorities`, `Unions`, `Added`, `Fresh`, `Kept` and `Compared` are for use above; the others serve the functions here.
+-- Laws. `Totals`, `Majorities`, `Unions`, `Meeting`, `Added`, `Fresh`, `Kept` and `Compared` are for use above; the others serve the functions here.
 pub mod Lines
 pub mod Maps
 pub mod Answers
@@ -13,3 +13,4 @@ pub mod Kept
 pub mod Compared
 pub mod Fresh
 pub mod Added
+pub mod Meeting

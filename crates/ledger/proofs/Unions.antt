@@ -1,13 +1,13 @@
 -- Laws of the join. A cell of the union is that of the later row, and a row is taken whole; so joining is idempotent and associative, and where
 -- the rows agree it commutes. What is joined has at least the transfers of each part.
 use Prim.Native.Nat.{ℕ, _/_, _≤_, _<_, max}
-use native.Mathlib.Nat.{max-comm, le-max-left, le-max-right}
+use native.Mathlib.Nat.{le-refl, max-comm, le-max-left, le-max-right}
 use native.Mathlib.Omega.{arith}
 use mathlib.Core.Path.{_≡_, refl, sym, ap, ap₂, _∙_}
 use mathlib.Core.Logic.{⊎-elim}
 use mathlib.Core.Bool.{true}
 use mathlib.Core.List.{List}
-use borrow.Author.Tests.{lt-ltb, le-ltb, eq-eqb, ne-eqb, eqb-true}
+use borrow.Author.Tests.{lt-ltb, le-ltb, eq-eqb, ne-eqb, eqb-true, leb-true}
 use lib.Dec.{eqb}
 use lib.ListN.{getD, length}
 use Rattle.quorums.proofs.Tests.{le-or-lt}
@@ -92,6 +92,14 @@ later-comm m n x y e =
     (le-or-lt n m))
     (λ (h : n < m). later-first m n x y (omega arith) ∙ sym (later-second n m y x h))
     (le-or-lt m n)
+
+-- a cell of the union is no smaller
+pub later-grows : (m n x y : ℕ) → agree m n x y ≡ true → x ≤ later m n x y
+unfolding agree
+later-grows m n x y e =
+    ⊎-elim (λ (h : n ≤ m). rw (later-first m n x y h) (le-refl x))
+    (λ (h : m < n). rw (later-second m n x y h) (leb-true x y (rw (lt-ltb m n h) at e)))
+    (le-or-lt n m)
 
 later-assoc : (m n p x y z : ℕ) → later (max m n) p (later m n x y) z ≡ later m (max n p) x (later n p y z)
 later-assoc m n p x y z =
