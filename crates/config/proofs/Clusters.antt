@@ -21,6 +21,7 @@ use Rattle.config.specs.Cluster.{validOf, serverOf, startOf, totalOf, ab
 
 -- ---- validity
 
+-- what it says of n and f
 pub record Bounds (c : Config) : Type 0 where
   pub some : 1 ≤ c .n
   pub most : c .n ≤ 16
@@ -55,6 +56,7 @@ pub total-is : (c : Config) → totalOf c ≡ c .n * 1000
 unfolding totalOf startOf
 total-is c = sum-const (c .n) 1000
 
+-- W, each start weight and the least weight are small
 pub total-small : (c : Config) → validOf c ≡ true → totalOf c ≤ 16000
 total-small c v = omega (arith, total-is c, valid-bounds c v .most)
 
@@ -89,18 +91,12 @@ above-least c x y v =
     above-is (c .n) (c .f) (totalOf c) x y
     ∙ above-quotient (2 * (c .n - c .f)) (totalOf c) x y (omega (arith, valid-bounds c v .crash))
 
+-- a test and its negation
 turned : (a b : ℕ) → leb (0 + a) b ≡ not (ltb b a)
 turned a b =
     ⊎-elim (λ (h : a ≤ b). le-leb (0 + a) b (omega arith) ∙ sym (ap not (le-ltb b a h)))
     (λ (h : b < a). lt-leb (0 + a) b (omega arith) ∙ sym (ap not (lt-ltb b a h)))
     (le-or-lt a b)
-
--- Every start weight is above the floor, because 2f < n.
-pub start-above : (c : Config) (i : ℕ) → validOf c ≡ true → aboveOf c (difference (startOf c i) 0) ≡ true
-unfolding aboveOf startOf
-start-above c i v =
-    let h : 0 * (2 * (c .n - c .f)) + totalOf c < 1000 * (2 * (c .n - c .f)) = omega (arith, total-is c, valid-bounds c v .crash) in
-    above-is (c .n) (c .f) (totalOf c) 1000 0 ∙ lt-ltb _ _ h
 
 -- the same of any signed weight, as a comparison
 pub above-not-less : (c : Config) (w : ℤ) → validOf c ≡ true → aboveOf c w ≡ not (ltZ w (pos (leastOf c)))
@@ -110,9 +106,16 @@ above-not-less c (negsuc x) v = rw (below x, above-least c 0 (suc x) v) (lt-leb 
     below : (x : ℕ) → negsuc x ≡ difference 0 (suc x)
     below x = ap negsuc (omega arith) ∙ sym (difference-down 0 (suc x) (omega arith))
 
+-- Every start weight is above the floor, because 2f < n.
+pub start-above : (c : Config) (i : ℕ) → validOf c ≡ true → aboveOf c (difference (startOf c i) 0) ≡ true
+unfolding aboveOf startOf
+start-above c i v =
+    let h : 0 * (2 * (c .n - c .f)) + totalOf c < 1000 * (2 * (c .n - c .f)) = omega (arith, total-is c, valid-bounds c v .crash) in
+    above-is (c .n) (c .f) (totalOf c) 1000 0 ∙ lt-ltb _ _ h
+
 -- ---- answers
 
-pub value-not-refused : (x : ℕ) (r : Refusal) → Number.Value x ≡ Number.Refused r → ⊥
+value-not-refused : (x : ℕ) (r : Refusal) → Number.Value x ≡ Number.Refused r → ⊥
 value-not-refused x r e = let z : _≡_ {A = ℕ} 0 1 = cc in omega arith
 
 told-value : (b : Bool) (x y : ℕ) → cond b (Number.Value x) (Number.Refused Refusal.BadHouse) ≡ Number.Value y → (b ≡ true) × (y ≡ x)

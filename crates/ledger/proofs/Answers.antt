@@ -23,7 +23,7 @@ use Rattle.ledger.specs.declared.ledger.Ledger.{Ledger}
 use Rattle.ledger.specs.declared.balance.Balance.{Balance}
 use Rattle.ledger.specs.Ledgers.{accountsOf, givenOf}
 use Rattle.ledger.specs.Maps.{named, mapOf}
-use Rattle.ledger.specs.Balances.{Balanced, BalancedIn}
+use Rattle.ledger.specs.Balances.{Sides}
 use Rattle.ledger.specs.Weights.{weightOf, allOf, marginOf, quorumOf, marginAnswer}
 
 -- a signed number that fits is read back as itself
@@ -31,18 +31,18 @@ pub read-back : (z : ℤ) → mag z < 2 ^ 63 → toZ w64 (ofZ w64 z) ≡ z
 read-back z h = toZ-ofZ (record { sfits = h })
 
 -- a weight, from a server's balance
-pub weight-balance : (c : Config) (l : Ledger) (i : ℕ) (b : Balance) → Balanced c l i b → difference (b .held) (b .given) ≡ weightOf c l i
+pub weight-balance : (c : Config) (l : Ledger) (i most : ℕ) (b : Balance) → Sides (held (accountsOf c l) i) (givenOf l i) most b → difference (b .held) (b .given) ≡ weightOf c l i
 unfolding weightOf weight
-weight-balance c l i b h = ap₂ difference (h .held-is) (h .given-is)
+weight-balance c l i most b h = ap₂ difference (h .held-is) (h .given-is)
 
 -- the map of all names every server
 all-named : (i : ℕ) → i < 16 → named 65535 i ≡ true
 unfolding all named
 all-named = all-each 16 (named 65535) refl
 
-pub all-balance : (c : Config) (l : Ledger) (b : Balance) → validOf c ≡ true → BalancedIn c l 65535 b → difference (b .held) (b .given) ≡ allOf c l
+pub all-balance : (c : Config) (l : Ledger) (most : ℕ) (b : Balance) → validOf c ≡ true → Sides (sumIn (c .n) (named 65535) (held (accountsOf c l))) (sumIn (c .n) (named 65535) (givenOf l)) most b → difference (b .held) (b .given) ≡ allOf c l
 unfolding allOf
-all-balance c l b v h =
+all-balance c l most b v h =
     rw (h .held-is, h .given-is, weightIn-is (c .n) (accountsOf c l) (λ i. true), every (held (accountsOf c l)), every (givenOf l))
   where
     every : (f : ℕ → ℕ) → sumIn (c .n) (named 65535) f ≡ sumIn (c .n) (λ i. true) f
@@ -53,10 +53,10 @@ unfolding total totalOf
 total-accounts c l = refl
 
 -- a margin, from the balance of the servers named
-pub margin-balance : (c : Config) (l : Ledger) (m : ℕ) (b : Balance) → BalancedIn c l m b
+pub margin-balance : (c : Config) (l : Ledger) (m most : ℕ) (b : Balance) → Sides (sumIn (c .n) (named m) (held (accountsOf c l))) (sumIn (c .n) (named m) (givenOf l)) most b
     → difference (2 * b .held) (2 * b .given + totalOf c) ≡ marginOf c l m
 unfolding marginOf
-margin-balance c l m b h = rw (h .held-is, h .given-is, margin-is (c .n) (accountsOf c l) (named m), total-accounts c l)
+margin-balance c l m most b h = rw (h .held-is, h .given-is, margin-is (c .n) (accountsOf c l) (named m), total-accounts c l)
 
 -- quorum is the margin's sign
 pub quorum-margin : (c : Config) (l : Ledger) (m : ℕ) → quorumOf c l m ≡ ltZ (pos 0) (marginOf c l m)

@@ -4,11 +4,15 @@ use super::map::names;
 use config::answer::Number;
 use config::cluster::Config;
 ghost use mathlib.Core.Path.{_≡_};
-ghost use mathlib.Core.Bool.{true};
+ghost use mathlib.Core.Bool.{true, cond};
 ghost use Prim.Native.Nat.{_<_};
 ghost use Rattle.quorums.specs.Difference.{difference as differenceOf};
 ghost use Rattle.config.specs.Cluster.{serverOf, validOf};
-ghost use Rattle.ledger.specs.Balances.{Balanced, BalancedNamed, BalancedIn};
+ghost use Rattle.ledger.specs.Balances.{Sides};
+ghost use Rattle.ledger.specs.Ledgers.{accountsOf, givenOf};
+ghost use Rattle.ledger.specs.Maps.{named};
+ghost use Rattle.quorums.specs.Accounts.{held};
+ghost use Rattle.quorums.specs.Sum.{sumIn};
 
 // What servers have before their gifts are taken off, and what they gave.
 pub(crate) struct Balance {
@@ -20,7 +24,7 @@ impl Ledger {
     // The balance of one server.
     pub(crate) fn balance(self, config: Config, server: u64) -> Balance
         requires { ⌜ serverOf config server ≡ true ⌝ }
-        ensures { λ r. ⌜ Balanced config self server r ⌝ }
+        ensures { λ r. ⌜ Sides (held (accountsOf config self) server) (givenOf self server) 68719492720 r ⌝ }
     {
         let i = server as usize;
         let Number::Value(start) = config.start(server) else {
@@ -37,7 +41,7 @@ impl Ledger {
     // The same, or nothing where the map does not name the server.
     fn balance_named(self, config: Config, map: u16, server: u64) -> Balance
         requires { ⌜ serverOf config server ≡ true ⌝ }
-        ensures { λ r. ⌜ BalancedNamed config self map server r ⌝ }
+        ensures { λ r. ⌜ Sides (cond (named map server) (held (accountsOf config self) server) 0) (cond (named map server) (givenOf self server) 0) 68719492720 r ⌝ }
     {
         if names(map, server) {
             return self.balance(config, server);
@@ -48,7 +52,7 @@ impl Ledger {
     // The balance of the servers that a map names together.
     pub(crate) fn balance_in(self, config: Config, map: u16) -> Balance
         requires { ⌜ validOf config ≡ true ⌝ }
-        ensures { λ r. ⌜ BalancedIn config self map r ⌝ }
+        ensures { λ r. ⌜ Sides (sumIn (config .n) (named map) (held (accountsOf config self))) (sumIn (config .n) (named map) (givenOf self)) 1099511883520 r ⌝ }
     {
         let n = config.n;
         let mut held: u64 = 0;

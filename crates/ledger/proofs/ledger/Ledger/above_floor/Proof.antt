@@ -38,7 +38,7 @@ above : (c : tie.After-struct-known Inv-loop μ-loop) →
 above c =
     let start = c .before .before .before .before in
     let b = c .before .balance in
-    ap (aboveOf (start .args .config)) (sym (weight-balance _ _ _ _ (b .ensures)))
+    ap (aboveOf (start .args .config)) (sym (weight-balance _ _ _ _ _ (b .ensures)))
     ∙ above-least (start .args .config) (b .result .held) (b .result .given) (start .pre .0)
     ∙ ap (λ w. leb (b .result .given + w) (b .result .held)) (sym (start .pre .1))
 

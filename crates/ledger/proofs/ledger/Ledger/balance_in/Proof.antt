@@ -18,7 +18,7 @@ Inv-loop self config map n held₀ given₀ i₀ held given i =
     × (held ≡ sumIn i (named map) (A.held (accountsOf config self)))
     × (given ≡ sumIn i (named map) (givenOf self))
     × (held ≤ i * 68719492720)
-    × (given ≤ i * 68719476720)
+    × (given ≤ i * 68719492720)
 
 abbrev μ-loop : tie.MeasureT-loop
 μ-loop self config map n held₀ given₀ i₀ held given i = config .n - i

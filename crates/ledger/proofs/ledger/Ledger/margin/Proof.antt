@@ -54,7 +54,7 @@ mul-difference c = search needs
 mul-difference-2 : tie.Need-mul-difference-2
 mul-difference-2 c = search needs
 
-small : (c : tie.After-struct-known2) → (c .before .before .balance-in .result .held ≤ 1099511883520) × (c .before .before .balance-in .result .given ≤ 1099511627520) × (c .before .before .before .before .total2 .given .0 .0 ≤ 16000)
+small : (c : tie.After-struct-known2) → (c .before .before .balance-in .result .held ≤ 1099511883520) × (c .before .before .balance-in .result .given ≤ 1099511883520) × (c .before .before .before .before .total2 .given .0 .0 ≤ 16000)
 small c =
     let known = c .before .before .before in (
       c .before .before .balance-in .ensures .held-small,
@@ -78,7 +78,7 @@ returns-3 c =
     (read-back (c .difference .result) (c .difference .ok)
     ∙ c .difference .ensures
     ∙ ap (λ w. difference (2 * b .result .held) (2 * b .result .given + w)) (total-is known)
-    ∙ margin-balance _ _ _ _ (b .ensures)))
+    ∙ margin-balance _ _ _ _ _ (b .ensures)))
 
 pub margin-spec : {M : Type 1} → statement M
 margin-spec =

@@ -25,7 +25,7 @@ returns-2 : tie.Need-returns-2
 unfolding weightAnswer
 returns-2 c =
     simp (sym (c .before .before .before .has .ensures) ∙ not-false _ (c .before .before .if1 .left))
-    (ap Signed.Value (read-back (c .difference .result) (c .difference .ok) ∙ c .difference .ensures ∙ weight-balance _ _ _ _ (c .before .balance .ensures)))
+    (ap Signed.Value (read-back (c .difference .result) (c .difference .ok) ∙ c .difference .ensures ∙ weight-balance _ _ _ _ _ (c .before .balance .ensures)))
 
 pub weight-spec : {M : Type 1} → statement M
 weight-spec =

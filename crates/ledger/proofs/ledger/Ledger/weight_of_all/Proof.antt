@@ -25,7 +25,7 @@ returns-2 : tie.Need-returns-2
 unfolding allAnswer
 returns-2 c =
     let v = sym (c .before .before .before .valid .ensures) ∙ not-false _ (c .before .before .if1 .left) in
-    simp v (ap Signed.Value (read-back (c .difference .result) (c .difference .ok) ∙ c .difference .ensures ∙ all-balance _ _ _ v (c .before .balance-in .ensures)))
+    simp v (ap Signed.Value (read-back (c .difference .result) (c .difference .ok) ∙ c .difference .ensures ∙ all-balance _ _ _ _ v (c .before .balance-in .ensures)))
 
 pub weight-of-all-spec : {M : Type 1} → statement M
 weight-of-all-spec =
