@@ -1,3 +1,12 @@
 // The parameters of a cluster, fixed when a party is opened, and the answers that every crate above gives.
-pub mod answer;
-pub mod cluster;
+mod answer;
+mod cluster;
+
+pub use answer::Decision;
+pub use answer::Number;
+pub use answer::Refusal;
+pub use answer::Signed;
+pub use answer::Verdict;
+pub use cluster::Config;
+pub use cluster::MOST_SERVERS;
+pub use cluster::MOST_WEIGHT;

@@ -1,8 +1,8 @@
 // Both sides of a weight, as plain numbers: signed numbers are made only where an answer is one.
 use super::ledger::Ledger;
 use super::map::names;
-use config::answer::Number;
-use config::cluster::Config;
+use config::Config;
+use config::Number;
 ghost use mathlib.Core.Path.{_≡_};
 ghost use mathlib.Core.Bool.{true, cond};
 ghost use Prim.Native.Nat.{_<_};

@@ -2,9 +2,9 @@
 use super::ledger::Changed;
 use super::ledger::Ledger;
 use super::ledger::wide;
-use config::answer::Refusal;
-use config::answer::Verdict;
-use config::cluster::Config;
+use config::Config;
+use config::Refusal;
+use config::Verdict;
 ghost use mathlib.Core.Path.{_≡_};
 ghost use Prim.Native.Nat.{_<_};
 ghost use Rattle.ledger.specs.Changes.{lawful as lawfulOf, roomFor as roomOf, addAnswer};

@@ -2,11 +2,11 @@
 use super::ledger::Ledger;
 use super::ledger::wide;
 use super::ledger::wide16;
-use config::answer::Number;
-use config::answer::Refusal;
-use config::answer::Verdict;
-use config::cluster::Config;
-use config::cluster::MOST_WEIGHT;
+use config::Config;
+use config::MOST_WEIGHT;
+use config::Number;
+use config::Refusal;
+use config::Verdict;
 ghost use mathlib.Core.Path.{_≡_};
 ghost use mathlib.Core.Bool.{true};
 ghost use Prim.Native.Nat.{_<_};

@@ -1,9 +1,9 @@
 // The union of what two parties know (paper 01, "Sheets": two sheets join), and how two ledgers compare.
 use super::ledger::Changed;
 use super::ledger::Ledger;
-use config::answer::Refusal;
-use config::answer::Verdict;
-use config::cluster::Config;
+use config::Config;
+use config::Refusal;
+use config::Verdict;
 ghost use mathlib.Core.Path.{_≡_};
 ghost use Prim.Native.Nat.{max};
 ghost use Rattle.quorums.specs.Sum.{all};

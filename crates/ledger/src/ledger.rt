@@ -1,6 +1,6 @@
 // The record, and what every module reads of it.
-use config::answer::Refusal;
-use config::answer::Verdict;
+use config::Refusal;
+use config::Verdict;
 ghost use mathlib.Core.Path.{_≡_};
 ghost use Prim.Native.Nat.{ℕ, _+_, _*_, _<_, _≤_};
 ghost use lib.ListN.{getD};

@@ -1,8 +1,12 @@
 // The transfers that a party knows (paper 01: sheet), and what follows from them: weights, quorums, and what two parties know together.
 mod balance;
-pub mod change;
-pub mod check;
-pub mod join;
-pub mod ledger;
-pub mod map;
-pub mod weight;
+mod change;
+mod check;
+mod join;
+mod ledger;
+mod map;
+mod weight;
+
+pub use ledger::Changed;
+pub use ledger::Ledger;
+pub use map::count_named;

@@ -1,7 +1,7 @@
 // Maps of servers: bit i of a 16-bit number stands for server i.
-use config::answer::Number;
-use config::answer::Refusal;
-use config::cluster::Config;
+use config::Config;
+use config::Number;
+use config::Refusal;
 ghost use mathlib.Core.Path.{_≡_};
 ghost use Prim.Native.Nat.{_<_};
 ghost use Rattle.ledger.specs.Maps.{named, mapOf, namedAnswer};

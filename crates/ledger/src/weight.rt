@@ -2,11 +2,11 @@
 use super::balance::difference;
 use super::ledger::Ledger;
 use super::map::within;
-use config::answer::Decision;
-use config::answer::Number;
-use config::answer::Refusal;
-use config::answer::Signed;
-use config::cluster::Config;
+use config::Config;
+use config::Decision;
+use config::Number;
+use config::Refusal;
+use config::Signed;
 ghost use mathlib.Core.Path.{_≡_};
 ghost use Rattle.ledger.specs.Weights.{givenAnswer, receivedAnswer, weightAnswer, allAnswer, marginAnswer, quorumAnswer};
 
