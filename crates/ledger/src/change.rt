@@ -6,7 +6,6 @@ use config::Config;
 use config::Refusal;
 use config::Verdict;
 ghost use mathlib.Core.Path.{_≡_};
-ghost use Prim.Native.Nat.{_<_};
 ghost use Rattle.ledger.specs.Changes.{lawful as lawfulOf, roomFor as roomOf, addAnswer};
 
 impl Ledger {

@@ -1,6 +1,5 @@
 // Whether a ledger is one that a party may hold or send: every count and cell within the paper's ranges, and every weight above the floor.
 use super::ledger::Ledger;
-use super::ledger::wide;
 use super::ledger::wide16;
 use config::Config;
 use config::MOST_WEIGHT;
@@ -9,7 +8,6 @@ use config::Refusal;
 use config::Verdict;
 ghost use mathlib.Core.Path.{_≡_};
 ghost use mathlib.Core.Bool.{true};
-ghost use Prim.Native.Nat.{_<_};
 ghost use Rattle.quorums.specs.Sum.{all};
 ghost use Rattle.config.specs.Cluster.{validOf, leastOf};
 ghost use Rattle.ledger.specs.Checks.{mayHold, cellFits, totalFits, rowFits, aboveFloor, boundsAnswer, floorAnswer, checkAnswer};
@@ -54,6 +52,7 @@ impl Ledger {
         Verdict::Accepted
     }
 
+    // Whether every cell may hold what it holds.
     fn cells_fit(self, n: u64) -> bool
         ensures { λ r. ⌜ r ≡ all 256 (cellFits n self) ⌝ }
     {
@@ -67,6 +66,7 @@ impl Ledger {
         true
     }
 
+    // Whether every row's total fits its count.
     fn rows_fit(self) -> bool
         ensures { λ r. ⌜ r ≡ all 16 (rowFits self) ⌝ }
     {

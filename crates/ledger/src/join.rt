@@ -68,6 +68,7 @@ impl Ledger {
         true
     }
 
+    // Of each giver the larger count.
     fn larger_counts(self, other: Ledger) -> [u16; 16]
         ensures { λ r. ⌜ r ≡ table 16 (largerAt self other) ⌝ }
     {
@@ -80,6 +81,7 @@ impl Ledger {
         counts
     }
 
+    // Of each giver the cells of the row with the larger count.
     fn later_cells(self, other: Ledger) -> [u32; 256]
         ensures { λ r. ⌜ r ≡ table 256 (laterAt self other) ⌝ }
     {
@@ -149,6 +151,7 @@ impl Ledger {
     }
 }
 
+// Whether two cells at one place may stand in rows with these counts.
 fn agree(count: u16, other_count: u16, cell: u32, other_cell: u32) -> bool
     ensures { λ r. ⌜ r ≡ agreeOf count «other_count» cell «other_cell» ⌝ }
 {
@@ -161,6 +164,7 @@ fn agree(count: u16, other_count: u16, cell: u32, other_cell: u32) -> bool
     cell == other_cell
 }
 
+// The cell of the row with the larger count.
 fn later(count: u16, other_count: u16, cell: u32, other_cell: u32) -> u32
     ensures { λ r. ⌜ r ≡ laterOf count «other_count» cell «other_cell» ⌝ }
 {
@@ -170,6 +174,7 @@ fn later(count: u16, other_count: u16, cell: u32, other_cell: u32) -> u32
     cell
 }
 
+// The larger count.
 fn larger(count: u16, other_count: u16) -> u16
     ensures { λ r. ⌜ r ≡ max count «other_count» ⌝ }
 {

@@ -6,7 +6,7 @@ ghost use Prim.Native.Nat.{ℕ, _+_, _*_, _<_, _≤_};
 ghost use lib.ListN.{getD};
 ghost use Rattle.ledger.specs.Ledgers.{freshLedger, lineOf, refused as refusedOf};
 
-// The transfers known to a party. counts[i] is the number of transfers that server i made, and cells[16 i + j] what it gave server j in all.
+// The transfers known to a party (paper 01: sheet). counts[i] is the number of transfers that server i made, and cells[16 i + j] what it gave server j in all.
 #[repr(C)]
 pub struct Ledger {
     pub counts: [u16; 16],
@@ -56,6 +56,7 @@ impl Ledger {
     }
 }
 
+// A number at a wider type, with its bound.
 pub(crate) fn wide(x: u32) -> u64
     ensures { λ r. ⌜ (r ≡ x) × (r ≤ 4294967295) ⌝ }
 {
