@@ -2,36 +2,36 @@
 use Prim.Native.Nat.{ℕ, _+_, _-_, _*_, _/_, _%_, _≤_, _<_}
 use native.Mathlib.Omega.{arith}
 use mathlib.Core.Path.{_≡_, refl, sym, ap, _∙_}
-use mathlib.Core.Logic.{_⊎_, inl, inr, ⊎-elim}
+use mathlib.Core.Logic.{_⊎_, inl, inr, ⊎-elim, _↔_}
 use mathlib.Core.Bool.{Bool, true, false, cond, not}
-use borrow.Author.Tests.{eqb-true, eqb-false, ltb-true, not-true}
-use lib.Dec.{eqb, ltb}
+use borrow.Author.Tests.{eqb-true, eqb-false, ltb-true, leb-true, not-true}
+use lib.Dec.{eqb, ltb, leb}
 use lib.IntN.{pos}
 use Rattle.quorums.specs.Sum.{sum, all}
 use Rattle.quorums.proofs.Tests.{both}
 use Rattle.quorums.proofs.Sums.{all-each, sum-same, sum-extend, sum-swap}
 use Rattle.quorums.proofs.Weights as W
-use Rattle.config.specs.Cluster.{validOf, totalOf}
+use Rattle.config.specs.Cluster.{validOf, totalOf, mostWeight}
 use Rattle.config.specs.declared.cluster.Config.{Config}
 use Rattle.config.proofs.Clusters.{valid-bounds}
 use Rattle.ledger.specs.declared.ledger.Ledger.{Ledger}
-use Rattle.ledger.specs.Ledgers.{cellOf, givenOf, receivedOf, accountsOf}
+use Rattle.ledger.specs.Ledgers.{countOf, cellOf, givenOf, receivedOf, accountsOf}
 use Rattle.ledger.specs.Weights.{allOf}
-use Rattle.ledger.specs.Checks.{mayHold, cellFits, rowFits, bounded}
+use Rattle.ledger.specs.Checks.{mayHold, totalFits, cellFits, rowFits, bounded}
 use Rattle.ledger.proofs.Answers.{total-accounts}
 
--- what a cell that fits may be
-pub record Placed (n i j x : ℕ) : Type 0 where
+-- the places of cells that may hold something: giver and taker are two servers
+pub record Placed (n i j : ℕ) : Type 0 where
   pub giver : i < n
   pub taker : j < n
   pub apart : i ≡ j → ⊥
 
-may-hold-told : (n k x : ℕ) → mayHold n k x ≡ true → (x ≡ 0) ⊎ Placed n (k / 16) (k % 16) x
+may-hold-told : (n k x : ℕ) → mayHold n k x ≡ true → (x ≡ 0) ⊎ Placed n (k / 16) (k % 16)
 unfolding mayHold
 may-hold-told n k x e = by-test (eqb x 0) refl e
   where
     by-test : (t : Bool) → eqb x 0 ≡ t → cond t true (cond (ltb (k / 16) n) (cond (ltb (k % 16) n) (not (eqb (k / 16) (k % 16))) false) false) ≡ true
-        → (x ≡ 0) ⊎ Placed n (k / 16) (k % 16) x
+        → (x ≡ 0) ⊎ Placed n (k / 16) (k % 16)
     by-test true s r = inl (eqb-true x 0 s)
     by-test false s r =
         let a = both (ltb (k / 16) n) _ r in
@@ -47,7 +47,7 @@ unfolding bounded
 told-bounded c l p q = rw p q
 
 -- a cell of a ledger within bounds is 0, or its giver and its taker are two servers
-pub cell-placed : (c : Config) (l : Ledger) (i j : ℕ) → bounded c l ≡ true → i < 16 → j < 16 → (cellOf l i j ≡ 0) ⊎ Placed (c .n) i j (cellOf l i j)
+pub cell-placed : (c : Config) (l : Ledger) (i j : ℕ) → bounded c l ≡ true → i < 16 → j < 16 → (cellOf l i j ≡ 0) ⊎ Placed (c .n) i j
 cell-placed c l i j b hi hj =
     let row : (i * 16 + j) / 16 ≡ i = omega arith in
     let column : (i * 16 + j) % 16 ≡ j = omega arith in
@@ -58,8 +58,17 @@ cell-placed c l i j b hi hj =
 pub cell-outside : (c : Config) (l : Ledger) (i j : ℕ) → bounded c l ≡ true → i < 16 → j < 16 → (c .n ≤ i) ⊎ (c .n ≤ j) → cellOf l i j ≡ 0
 cell-outside c l i j b hi hj o =
     ⊎-elim (λ e. e)
-    (λ (p : Placed (c .n) i j (cellOf l i j)). ⊎-elim (λ (h : c .n ≤ i). absurd (omega (arith, p .giver))) (λ (h : c .n ≤ j). absurd (omega (arith, p .taker))) o)
+    (λ (p : Placed (c .n) i j). ⊎-elim (λ (h : c .n ≤ i). absurd (omega (arith, p .giver))) (λ (h : c .n ≤ j). absurd (omega (arith, p .taker))) o)
     (cell-placed c l i j b hi hj)
+
+-- a count is 0 exactly when its row is empty
+pub count-empty : (c : Config) (l : Ledger) (i : ℕ) → bounded c l ≡ true → i < 16 → (countOf l i ≡ 0) ↔ (givenOf l i ≡ 0)
+unfolding totalFits
+count-empty c l i b h =
+    let x = both (leb (countOf l i) (givenOf l i)) _ (all-each 16 (rowFits l) (bounded-told c l b .1) i h) in
+    let low = leb-true (countOf l i) (givenOf l i) (x .0) in
+    let high = leb-true (givenOf l i) (mostWeight * countOf l i) (x .1) in
+    (λ (e : countOf l i ≡ 0). omega arith, λ (e : givenOf l i ≡ 0). omega arith)
 
 -- what all servers received is what all gave
 pub received-given : (c : Config) (l : Ledger) → validOf c ≡ true → bounded c l ≡ true → sum (c .n) (receivedOf l) ≡ sum (c .n) (givenOf l)
