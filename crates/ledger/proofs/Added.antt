@@ -5,15 +5,14 @@ use native.Mathlib.Decide.{ℕ-discrete}
 use native.Mathlib.Omega.{arith}
 use mathlib.Core.Path.{_≡_, refl, sym, ap, ap₂, _∙_}
 use mathlib.Core.Bool.{Bool, true, false, cond}
-use borrow.Author.Tests.{lt-ltb, ne-eqb, le-leb, leb-true}
-use lib.Dec.{eqb, leb}
+use borrow.Author.Tests.{lt-ltb, ne-eqb, le-leb}
+use lib.Dec.{eqb}
 use lib.IntN.{pos, _+ℤ_, _-ℤ_}
 use lib.ListN.{getD}
 use lib.Seq.{getD-set-same, getD-set-other}
 use Rattle.quorums.specs.Sum.{all}
 use Rattle.quorums.specs.Difference.{difference}
 use Rattle.quorums.specs.Accounts.{weight}
-use Rattle.quorums.proofs.Tests.{both}
 use Rattle.quorums.proofs.Sums.{sum-same, sum-more, all-each, each-all}
 use Rattle.quorums.proofs.Differences.{difference-less, difference-add, difference-same, pos-difference}
 use Rattle.config.specs.Cluster.{startOf, mostWeight}
@@ -23,7 +22,7 @@ use Rattle.ledger.specs.Ledgers.{countOf, cellOf, givenOf, receivedOf, T
 use Rattle.ledger.specs.Weights.{weightOf}
 use Rattle.ledger.specs.Checks.{mayHold, totalFits, cellFits, rowFits, bounded}
 use Rattle.ledger.specs.Changes.{lawful, added}
-use Rattle.ledger.proofs.Totals.{bounded-told, told-bounded}
+use Rattle.ledger.proofs.Totals.{bounded-told, told-bounded, total-fits-told}
 use Rattle.ledger.proofs.Changes.{lawful-told}
 
 -- a cell between two servers may hold anything
@@ -39,9 +38,7 @@ may-hold-placed n k x p q ne = rw (lt-ltb _ _ p, lt-ltb _ _ q, ne-eqb _ _ ne) (e
 total-more : (count total d : ℕ) → 1 ≤ d → d ≤ mostWeight → totalFits count total ≡ true → totalFits (count + 1) (total + d) ≡ true
 unfolding totalFits
 total-more count total d p q e =
-    let x = both (leb count total) _ e in
-    let low = leb-true count total (x .0) in
-    let high = leb-true total (mostWeight * count) (x .1) in
+    let t = total-fits-told count total e in
     let lower : count + 1 ≤ total + d = omega arith in
     let higher : total + d ≤ mostWeight * (count + 1) = omega arith in
     rw (le-leb _ _ lower) (le-leb _ _ higher)

@@ -52,18 +52,25 @@ joined-row-second a b i j hi hj l =
     joined-cell a b (i * 16 + j) (omega arith)
     ∙ later-second _ _ _ _ (subst (λ r. countOf a r < countOf b r) (sym (row-at i j hj)) l)
 
+pub joined-given-first : (a b : Ledger) (i : ℕ) → i < 16 → countOf b i ≤ countOf a i → givenOf (joined a b) i ≡ givenOf a i
+unfolding givenOf
+joined-given-first a b i h l = sum-same 16 _ _ (λ j k. joined-row-first a b i j h k l)
+
+pub joined-given-second : (a b : Ledger) (i : ℕ) → i < 16 → countOf a i < countOf b i → givenOf (joined a b) i ≡ givenOf b i
+unfolding givenOf
+joined-given-second a b i h l = sum-same 16 _ _ (λ j k. joined-row-second a b i j h k l)
+
 -- so what holds of every row of both holds of every row of the union
 pub joined-rows : (P : ℕ → ℕ → Type 0) (a b : Ledger) (i : ℕ) → i < 16
     → P (countOf a i) (givenOf a i)
     → P (countOf b i) (givenOf b i)
     → P (countOf (joined a b) i) (givenOf (joined a b) i)
-unfolding givenOf
 joined-rows P a b i h p q =
     ⊎-elim
     (λ (l : countOf b i ≤ countOf a i).
-    subst₂ P (sym (joined-count a b i h ∙ omega arith)) (sym (sum-same 16 _ _ (λ j k. joined-row-first a b i j h k l))) p)
+    subst₂ P (sym (joined-count a b i h ∙ omega arith)) (sym (joined-given-first a b i h l)) p)
     (λ (l : countOf a i < countOf b i).
-    subst₂ P (sym (joined-count a b i h ∙ omega arith)) (sym (sum-same 16 _ _ (λ j k. joined-row-second a b i j h k l))) q)
+    subst₂ P (sym (joined-count a b i h ∙ omega arith)) (sym (joined-given-second a b i h l)) q)
     (le-or-lt (countOf b i) (countOf a i))
 
 -- a union of ledgers within bounds is within bounds

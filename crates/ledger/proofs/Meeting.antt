@@ -7,7 +7,7 @@ use native.Mathlib.Omega.{arith}
 use mathlib.Core.Path.{_≡_, refl, sym, _∙_, subst}
 use mathlib.Core.Bool.{true}
 use Rattle.quorums.specs.Accounts.{held}
-use Rattle.quorums.proofs.Sums.{all-each, sum-same, sum-le}
+use Rattle.quorums.proofs.Sums.{all-each, sum-le}
 use Rattle.quorums.proofs.Weights.{above-lt}
 use Rattle.quorums.proofs.Meeting.{Shared, quorums-meet-across}
 use Rattle.config.specs.Cluster.{validOf, aboveOf, totalOf}
@@ -22,7 +22,7 @@ use Rattle.ledger.specs.Joins.{agreeAt, joins, joined}
 use Rattle.ledger.proofs.Totals.{received-given}
 use Rattle.ledger.proofs.Majorities.{each-above}
 use Rattle.ledger.proofs.Unions.{joins-comm, joined-comm, joined-cell, later-grows}
-use Rattle.ledger.proofs.Kept.{joined-row-first, joined-bounded}
+use Rattle.ledger.proofs.Kept.{joined-given-first, joined-bounded}
 
 -- no cell of a union is smaller
 cell-grows : (a b : Ledger) (i j : ℕ) → joins a b ≡ true → i < 16 → j < 16 → cellOf a i j ≤ cellOf (joined a b) i j
@@ -34,11 +34,6 @@ cell-grows a b i j e hi hj =
 pub received-grows : (a b : Ledger) (i : ℕ) → joins a b ≡ true → i < 16 → receivedOf a i ≤ receivedOf (joined a b) i
 unfolding receivedOf
 received-grows a b i e h = sum-le 16 _ _ (λ j k. cell-grows a b j i e k h)
-
--- a server with no more transfers in the other ledger gave the same in the union
-pub given-kept : (a b : Ledger) (i : ℕ) → i < 16 → countOf b i ≤ countOf a i → givenOf (joined a b) i ≡ givenOf a i
-unfolding givenOf
-given-kept a b i h l = sum-same 16 _ _ (λ j k. joined-row-first a b i j h k l)
 
 -- nobody gave what was not there, where every weight is above the floor
 pub given-held : (c : Config) (l : Ledger) → aboveFloor c l ≡ true → (i : ℕ) → i < c .n → givenOf l i ≤ held (accountsOf c l) i
@@ -62,8 +57,8 @@ ledgers-meet c a b p q v sa sb e f hp hq qp qq =
     (λ i l. refl) (λ i l. refl)
     (λ i l. received-grows a b i e (small i l))
     (λ i l. subst (λ u. receivedOf b i ≤ receivedOf u i) (sym union) (received-grows b a i (sym (joins-comm a b) ∙ e) (small i l)))
-    (λ i l t. omega (arith, given-kept a b i (small i l) (hp i l t)))
-    (λ i l t. subst (λ u. givenOf u i ≤ givenOf b i) (sym union) (omega (arith, given-kept b a i (small i l) (hq i l t))))
+    (λ i l t. omega (arith, joined-given-first a b i (small i l) (hp i l t)))
+    (λ i l t. subst (λ u. givenOf u i ≤ givenOf b i) (sym union) (omega (arith, joined-given-first b a i (small i l) (hq i l t))))
     (received-given c (joined a b) v (joined-bounded c a b sa sb))
     (given-held c (joined a b) f) qp qq
   where

@@ -61,13 +61,15 @@ cell-outside c l i j b hi hj o =
     (λ (p : Placed (c .n) i j). ⊎-elim (λ (h : c .n ≤ i). absurd (omega (arith, p .giver))) (λ (h : c .n ≤ j). absurd (omega (arith, p .taker))) o)
     (cell-placed c l i j b hi hj)
 
+-- what the test of a row tells
+pub total-fits-told : (count total : ℕ) → totalFits count total ≡ true → (count ≤ total) × (total ≤ mostWeight * count)
+unfolding totalFits
+total-fits-told count total e = let x = both (leb count total) _ e in (leb-true _ _ (x .0), leb-true _ _ (x .1))
+
 -- a count is 0 exactly when its row is empty
 pub count-empty : (c : Config) (l : Ledger) (i : ℕ) → bounded c l ≡ true → i < 16 → (countOf l i ≡ 0) ↔ (givenOf l i ≡ 0)
-unfolding totalFits
 count-empty c l i b h =
-    let x = both (leb (countOf l i) (givenOf l i)) _ (all-each 16 (rowFits l) (bounded-told c l b .1) i h) in
-    let low = leb-true (countOf l i) (givenOf l i) (x .0) in
-    let high = leb-true (givenOf l i) (mostWeight * countOf l i) (x .1) in
+    let t = total-fits-told (countOf l i) (givenOf l i) (all-each 16 (rowFits l) (bounded-told c l b .1) i h) in
     (λ (e : countOf l i ≡ 0). omega arith, λ (e : givenOf l i ≡ 0). omega arith)
 
 -- what all servers received is what all gave

@@ -46,13 +46,6 @@ unfolding sum
 sum-const zero k = sym (zero-mul k)
 sum-const (suc n) k = omega (arith, sum-const n k, suc-mul n k)
 
--- each term is bounded by the sum
-pub sum-term : (n : ℕ) (f : ℕ → ℕ) (i : ℕ) → i < n → f i ≤ sum n f
-unfolding sum
-sum-term zero f i l = absurd (omega arith)
-sum-term (suc n) f i l =
-    ⊎-elim (λ (e : i ≡ n). rw e (omega arith)) (λ (h : i < n). omega (arith, sum-term n f i h)) (below-suc l)
-
 -- one term larger by d
 pub sum-more : (n : ℕ) (f g : ℕ → ℕ) (j d : ℕ) → j < n → g j ≡ f j + d → ((i : ℕ) → i < n → (i ≡ j → ⊥) → g i ≡ f i) → sum n g ≡ sum n f + d
 unfolding sum

@@ -21,7 +21,10 @@ within-requires c κs = search needs
 
 returns : tie.Need-returns
 unfolding marginAnswer
-returns c = simp (sym (c .before .within .ensures) ∙ not-true _ (c .if1 .taken))
+returns c =
+    let a = c .before .before .args in
+    let out : mapOf (a .config) (a .map) ≡ false = sym (c .before .within .ensures) ∙ not-true _ (c .if1 .taken) in
+    simp out
 
 total-requires : tie.Need-total-requires
 total-requires c κs = search needs

@@ -1,6 +1,9 @@
 -- `quorum` meets its contract: it is the sign of the margin.
-use mathlib.Core.Path.{sym, _∙_}
+use mathlib.Core.Path.{_≡_, sym, _∙_}
+use mathlib.Core.Bool.{true, false}
 use borrow.Author.Needs.{needs}
+use lib.IntN.{pos}
+use lib.Signed.{ltZ}
 use Rattle.ledger.specs.Weights.{quorumAnswer}
 use Rattle.ledger.proofs.Answers.{read-back, quorum-margin, margin-told, margin-refused}
 use Rattle.ledger.proofs.ledger.Ledger.quorum.Statement.{statement}
@@ -23,14 +26,14 @@ returns-2 : tie.Need-returns-2
 unfolding quorumAnswer
 returns-2 c =
     let t = margin-told _ _ _ _ (sym (c .before .before .before .before .margin .ensures) ∙ c .before .before .margin2 .given .1) in
-    let flag = simp (read-back (c .before .before .margin2 .given .0 .0) (c .before .known-told .given .0 .1)) at (c .if1 .taken) in
+    let flag : ltZ (pos 0) (c .before .before .margin2 .given .0 .0) ≡ true = simp (read-back (c .before .before .margin2 .given .0 .0) (c .before .known-told .given .0 .1)) at (c .if1 .taken) in
     simp (t .0, quorum-margin, sym (t .1), flag)
 
 returns-3 : tie.Need-returns-3
 unfolding quorumAnswer
 returns-3 c =
     let t = margin-told _ _ _ _ (sym (c .before .before .before .before .margin .ensures) ∙ c .before .before .margin2 .given .1) in
-    let flag = simp (read-back (c .before .before .margin2 .given .0 .0) (c .before .known-told .given .0 .1)) at (c .if1 .left) in
+    let flag : ltZ (pos 0) (c .before .before .margin2 .given .0 .0) ≡ false = simp (read-back (c .before .before .margin2 .given .0 .0) (c .before .known-told .given .0 .1)) at (c .if1 .left) in
     simp (t .0, quorum-margin, sym (t .1), flag)
 
 pub quorum-spec : {M : Type 1} → statement M
