@@ -1,5 +1,5 @@
 -- The cluster's parameters (paper 01, "Sheets": a house has n servers and a crash limit f).
-use Prim.Native.Nat.{ℕ, _+_, _-_, _*_, _/_}
+use Prim.Native.Nat.{ℕ, _+_, _-_, _*_, _/_, _^_}
 use mathlib.Core.Bool.{Bool, true, false, cond}
 use lib.Dec.{leb, ltb}
 use lib.IntN.{ℤ}
@@ -40,6 +40,13 @@ leastOf c = totalOf c / (2 * (c .n - c .f)) + 1
 -- whether the cluster is within bounds and i one of its servers
 unfoldable pub serverOf : Config → ℕ → Bool
 serverOf c i = cond (validOf c) (ltb i (c .n)) false
+
+-- how many bytes a stamp has in a message, and the largest stamp
+unfoldable pub stampBytes : Config → ℕ
+stampBytes c = 4
+
+unfoldable pub mostStamp : Config → ℕ
+mostStamp c = 256 ^ stampBytes c - 1
 
 -- What the calls answer: 1 for a cluster out of bounds, and for a server that there isn't.
 

@@ -3,7 +3,7 @@ use super::answer::Decision;
 use super::answer::Number;
 use super::answer::Refusal;
 ghost use mathlib.Core.Path.{_≡_};
-ghost use Rattle.config.specs.Cluster.{configOf, validOf, serverOf, startAnswer, totalAnswer, leastAnswer, aboveAnswer};
+ghost use Rattle.config.specs.Cluster.{configOf, validOf, serverOf, stampBytes, mostStamp, startAnswer, totalAnswer, leastAnswer, aboveAnswer};
 
 // Servers 0 to n - 1, of which f may crash.
 #[repr(C)]
@@ -55,6 +55,20 @@ impl Config {
             return false;
         }
         server < self.n
+    }
+
+    // How many bytes a stamp has in a message.
+    pub fn stamp_bytes(self) -> u64
+        ensures { λ r. ⌜ r ≡ stampBytes self ⌝ }
+    {
+        4
+    }
+
+    // The largest stamp.
+    pub fn most_stamp(self) -> u64
+        ensures { λ r. ⌜ r ≡ mostStamp self ⌝ }
+    {
+        4294967295
     }
 
     // The start weight of a server.

@@ -1,0 +1,3 @@
+-- Definitions: numbers and maps as bytes, then the table.
+pub mod Bytes
+pub mod Table

@@ -1,0 +1,16 @@
+// Messages: the header, what a reader is to find in bytes and a writer to make of a header (specs/), and that each undoes the other (proofs/).
+// The crates `reader` and `writer` have the functions.
+mod answer;
+mod header;
+mod state;
+
+pub use answer::refusal;
+pub use answer::Fields;
+pub use header::Header;
+pub use header::Tag;
+pub use state::Cursor;
+pub use state::HeadRead;
+pub use state::RegisterRead;
+pub use state::RowRead;
+pub use state::Scan;
+pub use state::SheetRead;

@@ -1,0 +1,52 @@
+// Where a reader stands, and what each of its parts found. Numbers are kept wide until the header is made.
+use super::header::Header;
+use ledger::Ledger;
+
+// Once the number isn't 0, every later step leaves it and the place as they are.
+pub struct Cursor {
+    // The number of the first fault; 0 where there was none.
+    pub number: u64,
+    // The place of the next byte.
+    pub at: usize,
+    // The number read last; 0 where none stood there.
+    pub x: u64,
+}
+
+// The map and the fields of bits 0 to 3.
+pub struct HeadRead {
+    pub map: u64,
+    pub kind: u64,
+    pub server: u64,
+    pub desk: u64,
+    pub round: u64,
+    pub cursor: Cursor,
+}
+
+// The register: its tag, and where its value lies.
+pub struct RegisterRead {
+    pub stamp: u64,
+    pub desk: u64,
+    pub from: usize,
+    pub length: u64,
+    pub cursor: Cursor,
+}
+
+// A row of the sheet; its cells stand elsewhere.
+pub struct RowRead {
+    pub count: u64,
+    pub cursor: Cursor,
+}
+
+// The sheet.
+pub struct SheetRead {
+    pub ledger: Ledger,
+    pub cursor: Cursor,
+}
+
+// A whole message: the number, and what was found before the first fault.
+pub struct Scan {
+    pub number: u64,
+    pub header: Header,
+    pub from: usize,
+    pub length: u64,
+}
