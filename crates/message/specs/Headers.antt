@@ -13,8 +13,17 @@ blankHeader = record { kind = 0; server = 0; desk = 0; round = 0; tag = record {
 abbrev pub fieldsOf : Header → List ℕ → Fields
 fieldsOf h v =
     record {
-    kind = h .kind; server = h .server; desk = h .desk; round = h .round; stamp = h .tag .stamp; tag-desk = h .tag .desk; value = v;
-    count = countOf (h .ledger); cell = cellOf (h .ledger); note = h .note }
+      kind = h .kind;
+      server = h .server;
+      desk = h .desk;
+      round = h .round;
+      stamp = h .tag .stamp;
+      tag-desk = h .tag .desk;
+      value = v;
+      count = countOf (h .ledger);
+      cell = cellOf (h .ledger);
+      note = h .note;
+    }
 
 unfoldable pub encode : Config → Header → List ℕ → List ℕ
 encode c h v = encodeFields c (fieldsOf h v)

@@ -70,16 +70,20 @@ cellRead msg m c j = cellsAfter msg m c (suc j) .x
 unfoldable pub readCount : List ℕ → ℕ → Cursor → Cursor
 readCount msg s c = readNumber msg s 2 1 65535 c
 
--- the cell map of giver i: bits below n, its own unset
-unfoldable pub readCellMap : Config → List ℕ → ℕ → ℕ → Cursor → Cursor
-readCellMap c msg i s from = let m = readNumber msg s 2 1 (2 ^ c .n - 1) (readCount msg s from) in require (eqb (bit (m .x) i) 0) 4 m
+-- the cell map of giver i, after its count: bits below n, its own unset
+unfoldable pub cellMapOf : Config → List ℕ → ℕ → ℕ → Cursor → Cursor
+cellMapOf c msg i s count = let m = readNumber msg s 2 1 (2 ^ c .n - 1) count in require (eqb (bit (m .x) i) 0) 4 m
+
+-- the cells of the row of giver i
+unfoldable pub rowCells : Config → List ℕ → ℕ → ℕ → Cursor → ℕ → ℕ
+rowCells c msg i s from j = let m = cellMapOf c msg i s (readCount msg s from) in cellRead msg (m .x) m j
 
 -- the row of giver i, whose total lies from its count to 16,000 × count
 unfoldable pub rowOf : Config → List ℕ → ℕ → ℕ → Cursor → RowRead
 rowOf c msg i s from =
-    let count = readCount msg s from .x in
-    let m = readCellMap c msg i s from in
-    record { count = count; cursor = require (totalFits count (sum 16 (cellRead msg (m .x) m))) 4 (cellsAfter msg (m .x) m 16) }
+    let count = readCount msg s from in
+    let m = cellMapOf c msg i s count in
+    record { count = count .x; cursor = require (totalFits (count .x) (sum 16 (cellRead msg (m .x) m))) 4 (cellsAfter msg (m .x) m 16) }
 
 -- after the first i rows of a sheet with the row map m
 unfoldable pub rowsAfter : Config → List ℕ → ℕ → Cursor → ℕ → Cursor
@@ -90,11 +94,11 @@ rowsAfter c msg m from (suc i) = rowOf c msg i (bit m i) (rowsAfter c msg m from
 unfoldable pub countRead : Config → List ℕ → ℕ → Cursor → ℕ → ℕ
 countRead c msg m from i = rowOf c msg i (bit m i) (rowsAfter c msg m from i) .count
 
-unfoldable pub rowCell : Config → List ℕ → ℕ → Cursor → ℕ → ℕ → ℕ
-rowCell c msg m from i j = let r = readCellMap c msg i (bit m i) (rowsAfter c msg m from i) in cellRead msg (r .x) r j
+unfoldable pub cellOfRow : Config → List ℕ → ℕ → Cursor → ℕ → ℕ → ℕ
+cellOfRow c msg m from i = rowCells c msg i (bit m i) (rowsAfter c msg m from i)
 
 unfoldable pub ledgerRead : Config → List ℕ → ℕ → Cursor → Ledger
-ledgerRead c msg m from = record { counts = table 16 (countRead c msg m from); cells = table 256 (λ k. rowCell c msg m from (k / 16) (k % 16)) }
+ledgerRead c msg m from = record { counts = table 16 (countRead c msg m from); cells = table 256 (λ k. cellOfRow c msg m from (k / 16) (k % 16)) }
 
 unfoldable pub sheetOf : Config → List ℕ → ℕ → Cursor → SheetRead
 sheetOf c msg s from =
@@ -117,10 +121,17 @@ scanOf c msg =
     let s = sheetOf c msg (bit (h .map) 5) (r .cursor) in
     let note = readNote msg (bit (h .map) 6) (s .cursor) in
     record {
-    number = endOf c msg (s .ledger) note .number;
-    header =
-    record {
-    kind = h .kind; server = h .server; desk = h .desk; round = h .round; tag = record { stamp = r .stamp; desk = r .desk }; ledger = s .ledger;
-    note = note .x };
-    from = r .from;
-    length = r .length }
+      number = endOf c msg (s .ledger) note .number;
+      header =
+          record {
+            kind = h .kind;
+            server = h .server;
+            desk = h .desk;
+            round = h .round;
+            tag = record { stamp = r .stamp; desk = r .desk };
+            ledger = s .ledger;
+            note = note .x;
+          };
+      from = r .from;
+      length = r .length;
+    }

@@ -4,8 +4,8 @@ mod answer;
 mod header;
 mod state;
 
-pub use answer::refusal;
 pub use answer::Fields;
+pub use answer::refusal;
 pub use header::Header;
 pub use header::Tag;
 pub use state::Cursor;
