@@ -65,10 +65,10 @@ writeAnswer c h v room at =
     (cond (fits room at (length (encode c h v))) (Number.Value (at + length (encode c h v))) (Number.Refused Refusal.Narrow))
     (Number.Refused (refusalOf (check c (encode c h v))))
 
--- the bytes e in the place of as many from a place on
-unfoldable pub laidAt : List ℕ → ℕ → List ℕ → List ℕ
-laidAt out at e = take at out ++ e ++ drop (at + length e) out
+-- the bytes e in the place of as many at the front of a buffer
+unfoldable pub over : List ℕ → List ℕ → List ℕ
+over e out = e ++ drop (length e) out
 
 -- the buffer after a write
 unfoldable pub writeBuffer : Config → Header → List ℕ → List ℕ → ℕ → List ℕ
-writeBuffer c h v out at = cond (writes c h v (length out) at) (laidAt out at (encode c h v)) out
+writeBuffer c h v out at = cond (writes c h v (length out) at) (take at out ++ over (encode c h v) (drop at out)) out

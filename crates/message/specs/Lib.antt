@@ -1,5 +1,6 @@
--- Definitions, in reading order: the header and its bytes, the reader's steps, the whole message, and what the calls answer.
+-- Definitions, in reading order: the header and its bytes, the reader's steps, the whole message, what the calls answer, and the writer's number.
 pub mod Headers
 pub mod Cursors
 pub mod Scans
 pub mod Answers
+pub mod Faults

@@ -1,0 +1,2 @@
+-- Definitions: what stands in a message, and its size.
+pub mod Outlines

@@ -1,0 +1,97 @@
+// The fields of a message into the front of a buffer, each by the writer of its numbers on what is left of the buffer.
+use super::put::put_number;
+use super::put::put_value;
+use config::Config;
+use message::Header;
+use message::Tag;
+ghost use mathlib.Core.Path.{_≡_};
+ghost use Prim.Native.Nat.{ℕ, _+_, _*_, _≤_};
+ghost use lib.ListN.{length, getD};
+ghost use Rattle.format.specs.Table.{head, register, cellMap, cells as cellsOf, row as rowOf, rows as rowsOf};
+ghost use Rattle.ledger.specs.Tables.{table};
+ghost use Rattle.message.specs.Answers.{over};
+
+// The map, kind, server, desk and round.
+pub(crate) fn put_head(out: &mut [u8], map: u64, header: Header) -> usize
+    requires { ⌜ length (head map (header .kind) (header .server) (header .desk) (header .round)) ≤ length (now out) ⌝ }
+    ensures { λ r. ⌜ (now (out .exit) ≡ over (head map (header .kind) (header .server) (header .desk) (header .round)) (now (out .entry))) × (r ≡ length (head map (header .kind) (header .server) (header .desk) (header .round))) ⌝ }
+{
+    let desk = header.desk as u64;
+    let round = header.round as u64;
+    let mut p = put_number(out, 1, 2, map);
+    p += put_number(&mut out[p..], 1, 1, header.kind as u64);
+    p += put_number(&mut out[p..], 1, 1, header.server as u64);
+    p += put_number(&mut out[p..], desk, 2, desk);
+    p += put_number(&mut out[p..], round, 4, round);
+    p
+}
+
+// The register.
+pub(crate) fn put_register(out: &mut [u8], config: Config, tag: Tag, value: &[u8]) -> usize
+    requires { ⌜ (length (now value) ≤ 64) × (length (register config (tag .stamp) (tag .desk) (now value)) ≤ length (now out)) ⌝ }
+    ensures { λ r. ⌜ (now (out .exit) ≡ over (register config (tag .stamp) (tag .desk) (now (value .entry))) (now (out .entry))) × (r ≡ length (register config (tag .stamp) (tag .desk) (now (value .entry)))) ⌝ }
+{
+    let length = value.len() as u64;
+    let stamp = tag.stamp as u64;
+    let desk = tag.desk as u64;
+    let stands = stamp + desk + length;
+    let width = config.stamp_bytes() as usize;
+    let mut p = put_number(out, stands, width, stamp);
+    p += put_number(&mut out[p..], stands, 2, desk);
+    p += put_number(&mut out[p..], stands, 1, length);
+    p += put_value(&mut out[p..], value);
+    p
+}
+
+// The cells of a row.
+pub(crate) fn put_cells(out: &mut [u8], row: &[u32]) -> usize
+    requires { ⌜ (length (now row) ≡ 16) × (length (cellsOf (λ j. getD (now row) j 0)) ≤ length (now out)) ⌝ }
+    ensures { λ r. ⌜ (now (out .exit) ≡ over (cellsOf (λ j. getD (now (row .entry)) j 0)) (now (out .entry))) × (r ≡ length (cellsOf (λ j. getD (now (row .entry)) j 0))) ⌝ }
+{
+    let mut p: usize = 0;
+    let mut j: usize = 0;
+    while j < 16 {
+        let x = row[j] as u64;
+        p += put_number(&mut out[p..], x, 4, x);
+        j += 1;
+    }
+    p
+}
+
+// A row, from its count, its cell map and its cells.
+pub(crate) fn put_row(out: &mut [u8], count: u64, map: u64, row: &[u32]) -> usize
+    requires { ⌜ (length (now row) ≡ 16) × (count ≤ 65535) × (map ≤ 65535) × (map ≡ cellMap (λ j. getD (now row) j 0)) × (length (rowOf count (λ j. getD (now row) j 0)) ≤ length (now out)) ⌝ }
+    ensures { λ r. ⌜ (now (out .exit) ≡ over (rowOf count (λ j. getD (now (row .entry)) j 0)) (now (out .entry))) × (r ≡ length (rowOf count (λ j. getD (now (row .entry)) j 0))) ⌝ }
+{
+    let stands = count + map;
+    let mut p = put_number(out, stands, 2, count);
+    p += put_number(&mut out[p..], stands, 2, map);
+    p += put_cells(&mut out[p..], row);
+    p
+}
+
+// All rows, from the counts, the cells and the cell maps of a ledger.
+pub(crate) fn put_rows(
+    out: &mut [u8],
+    counts: [u16; 16],
+    cells: [u32; 256],
+    maps: [u16; 16],
+) -> usize
+    requires { ⌜ (maps ≡ table 16 (λ i. cellMap (λ j. getD cells (i * 16 + j) 0))) × (length (rowsOf (λ i. getD counts i 0) (λ i j. getD cells (i * 16 + j) 0)) ≤ length (now out)) ⌝ }
+    ensures { λ r. ⌜ (now (out .exit) ≡ over (rowsOf (λ i. getD counts i 0) (λ i j. getD cells (i * 16 + j) 0)) (now (out .entry))) × (r ≡ length (rowsOf (λ i. getD counts i 0) (λ i j. getD cells (i * 16 + j) 0))) ⌝ }
+{
+    let mut p: usize = 0;
+    let mut i: usize = 0;
+    while i < 16 {
+        let a = i * 16;
+        let e = a + 16;
+        p += put_row(
+            &mut out[p..],
+            counts[i] as u64,
+            maps[i] as u64,
+            &cells[a..e],
+        );
+        i += 1;
+    }
+    p
+}

@@ -1,0 +1,108 @@
+// What of a header stands in its message, and how long the message is, found before the first byte is written.
+use config::Config;
+use ledger::Ledger;
+use message::Header;
+ghost use mathlib.Core.Path.{_≡_};
+ghost use Prim.Native.Nat.{ℕ, _+_, _≤_, _<_};
+ghost use lib.ListN.{length, getD};
+ghost use Rattle.quorums.specs.Sum.{sum};
+ghost use Rattle.ledger.specs.Ledgers.{countOf, cellOf};
+ghost use Rattle.ledger.specs.Tables.{table};
+ghost use Rattle.format.specs.Bytes.{stands as standsOf};
+ghost use Rattle.format.specs.Table.{cellMap, rowMap, rows as rowsOf};
+ghost use Rattle.writer.specs.Outlines.{outlineOf};
+
+// The cells of one row that stand: their map and their number.
+pub(crate) struct RowMarks {
+    pub map: u64,
+    pub cells: u64,
+}
+
+// The rows of a ledger that stand, the cell map of each row, and how many bytes the rows take.
+pub(crate) struct Rows {
+    pub map: u64,
+    pub cells: [u16; 16],
+    pub bytes: u64,
+}
+
+// A message's map, and how many bytes it takes.
+pub(crate) struct Outline {
+    pub map: u64,
+    pub bytes: u64,
+}
+
+// 1 for a number that isn't 0.
+pub(crate) fn mark(x: u64) -> u64
+    ensures { λ r. ⌜ (r ≡ standsOf x) × (r ≤ 1) ⌝ }
+{
+    if x == 0 {
+        return 0;
+    }
+    1
+}
+
+pub(crate) fn row_marks(row: &[u32]) -> RowMarks
+    requires { ⌜ length (now row) ≡ 16 ⌝ }
+    ensures { λ r. ⌜ (r .map ≡ cellMap (λ j. getD (now (row .entry)) j 0)) × (r .cells ≡ sum 16 (λ j. standsOf (getD (now (row .entry)) j 0))) × (r .map ≤ 65535) × (r .cells ≤ 16) ⌝ }
+{
+    let mut map: u64 = 0;
+    let mut cells: u64 = 0;
+    let mut power: u64 = 1;
+    let mut j: usize = 0;
+    while j < 16 {
+        let m = mark(row[j] as u64);
+        map += m * power;
+        cells += m;
+        power *= 2;
+        j += 1;
+    }
+    RowMarks { map, cells }
+}
+
+pub(crate) fn mark_rows(ledger: Ledger) -> Rows
+    ensures { λ r. ⌜ (r .map ≡ rowMap (countOf ledger) (cellOf ledger)) × (r .cells ≡ table 16 (λ i. cellMap (cellOf ledger i))) × (r .bytes ≡ length (rowsOf (countOf ledger) (cellOf ledger))) × (r .map ≤ 65535) × (r .bytes ≤ 1088) ⌝ }
+{
+    let counts = ledger.counts;
+    let all = ledger.cells;
+    let mut map: u64 = 0;
+    let mut cells: [u16; 16] = [0; 16];
+    let mut bytes: u64 = 0;
+    let mut power: u64 = 1;
+    let mut i: usize = 0;
+    while i < 16 {
+        let a = i * 16;
+        let e = a + 16;
+        let row = row_marks(&all[a..e]);
+        let m = mark((counts[i] as u64) + row.map);
+        map += m * power;
+        cells[i] = row.map as u16;
+        bytes += 4 * m + 4 * row.cells;
+        power *= 2;
+        i += 1;
+    }
+    Rows { map, cells, bytes }
+}
+
+// The map and the size of a message, from its header, the length of its value, and the row map and bytes of its rows.
+pub(crate) fn measure(config: Config, header: Header, length: u64, rows: u64, bytes: u64) -> Outline
+    requires { ⌜ (length ≤ 64) × (rows ≤ 65535) × (bytes ≤ 1088) ⌝ }
+    ensures { λ r. ⌜ (r ≡ outlineOf config header length rows bytes) × (r .map ≤ 127) × (r .bytes ≤ 4096) ⌝ }
+{
+    let tag = header.tag;
+    let desk = mark(header.desk as u64);
+    let round = mark(header.round as u64);
+    let register = mark((tag.stamp as u64) + (tag.desk as u64) + length);
+    let sheet = mark(rows);
+    let note = mark(header.note as u64);
+    Outline {
+        map: 3 + 4 * desk + 8 * round + 16 * register + 32 * sheet + 64 * note,
+        bytes: 4
+            + 2 * desk
+            + 4 * round
+            + (config.stamp_bytes() + 3) * register
+            + length
+            + 2 * sheet
+            + bytes
+            + 4 * note,
+    }
+}
