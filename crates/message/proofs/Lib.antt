@@ -1,0 +1,2 @@
+pub mod Sticky
+pub mod Parts

@@ -1,0 +1,32 @@
+-- The value of a message without a fault lies within the message.
+use Prim.Native.Nat.{ℕ, _+_, _≤_}
+use native.Mathlib.Omega.{arith}
+use mathlib.Core.Path.{_≡_, refl}
+use mathlib.Core.Bool.{Bool, true, false, cond}
+use mathlib.Core.List.{List}
+use borrow.Author.Tests.{leb-true, eq-eqb}
+use lib.Dec.{leb}
+use lib.ListN.{length}
+use Rattle.config.specs.declared.cluster.Config.{Config}
+use Rattle.message.specs.declared.state.Cursor.{Cursor}
+use Rattle.message.specs.Cursors.{stay, skip}
+use Rattle.message.specs.Scans.{registerOf, scanOf}
+use Rattle.message.proofs.Sticky.{skip-open, sheet-open, note-open, end-open}
+
+-- bytes that were skipped are there
+pub skip-fits : (msg : List ℕ) (w : ℕ) (c : Cursor) → skip msg w c .number ≡ 0 → c .at + w ≤ length msg
+unfolding skip
+skip-fits msg w c e = by-test _ refl (simp (eq-eqb _ _ (skip-open msg w c e)) at e)
+  where
+    by-test : (b : Bool) → leb (c .at + w) (length msg) ≡ b → cond b (record { number = 0; at = c .at + w; x = 0 }) (stay 2 c) .number ≡ 0 → c .at + w ≤ length msg
+    by-test true t d = leb-true _ _ t
+    by-test false t d = absurd (omega arith)
+
+pub register-fits : (c : Config) (msg : List ℕ) (s : ℕ) (from : Cursor) → registerOf c msg s from .cursor .number ≡ 0
+    → registerOf c msg s from .from + registerOf c msg s from .length ≤ length msg
+unfolding registerOf
+register-fits c msg s from e = skip-fits msg _ _ e
+
+pub value-within : (c : Config) (msg : List ℕ) → scanOf c msg .number ≡ 0 → scanOf c msg .from + scanOf c msg .length ≤ length msg
+unfolding scanOf
+value-within c msg e = register-fits c msg _ _ (sheet-open c msg _ _ (note-open msg _ _ (end-open c msg _ _ e)))

@@ -1,0 +1,24 @@
+use borrow.Author.Needs.{needs}
+use Rattle.reader.proofs.head.read_kind.Statement.{statement}
+use Rattle.reader.proofs.head.read_kind.Tie as tie
+use Rattle.reader.proofs.head.read_kind.Reads as reads
+use Rattle.reader.proofs.head.read_kind.Lts as lts
+use Rattle.reader.proofs.cursor.read_number.Reads as read-number-reads
+use Rattle.reader.proofs.cursor.require.Reads as require-reads
+use Rattle.reader.proofs.head.kind_has.Reads as kind-has-reads
+
+read-number-requires : tie.Need-read-number-requires
+read-number-requires c κs = search needs
+
+kind-has-requires : tie.Need-kind-has-requires
+kind-has-requires c κs = search needs
+
+require-requires : tie.Need-require-requires
+require-requires c κs = search needs
+
+returns : tie.Need-returns
+returns c = ?
+
+pub read-kind-spec : {M : Type 1} → statement M
+read-kind-spec =
+    tie.close (tie.spec read-number-requires kind-has-requires require-requires returns)

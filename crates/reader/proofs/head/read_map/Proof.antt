@@ -1,0 +1,24 @@
+use borrow.Author.Needs.{needs}
+use Rattle.reader.proofs.head.read_map.Statement.{statement}
+use Rattle.reader.proofs.head.read_map.Tie as tie
+use Rattle.reader.proofs.head.read_map.Reads as reads
+use Rattle.reader.proofs.head.read_map.Lts as lts
+use Rattle.reader.proofs.cursor.read_number.Reads as read-number-reads
+use Rattle.reader.proofs.cursor.require.Reads as require-reads
+use Rattle.reader.proofs.head.map_lawful.Reads as map-lawful-reads
+
+read-number-requires : tie.Need-read-number-requires
+read-number-requires c κs = search needs
+
+map-lawful-requires : tie.Need-map-lawful-requires
+map-lawful-requires c κs = search needs
+
+require-requires : tie.Need-require-requires
+require-requires c κs = search needs
+
+returns : tie.Need-returns
+returns c = ?
+
+pub read-map-spec : {M : Type 1} → statement M
+read-map-spec =
+    tie.close (tie.spec read-number-requires map-lawful-requires require-requires returns)

@@ -1,0 +1,42 @@
+use borrow.Author.Needs.{needs}
+use Rattle.reader.proofs.register.read_register.Statement.{statement}
+use Rattle.reader.proofs.register.read_register.Tie as tie
+use Rattle.reader.proofs.register.read_register.Reads as reads
+use Rattle.reader.proofs.register.read_register.Lts as lts
+use Rattle.config.proofs.cluster.Config.most_stamp.Reads as most-stamp-reads
+use Rattle.config.proofs.cluster.Config.stamp_bytes.Reads as stamp-bytes-reads
+use Rattle.reader.proofs.cursor.read_number.Reads as read-number-reads
+use Rattle.reader.proofs.cursor.skip.Reads as skip-reads
+
+stamp-bytes-requires : tie.Need-stamp-bytes-requires
+stamp-bytes-requires c κs = search needs
+
+most-stamp-requires : tie.Need-most-stamp-requires
+most-stamp-requires c κs = search needs
+
+read-number-requires : tie.Need-read-number-requires
+read-number-requires c κs = ?
+
+read-number-requires-2 : tie.Need-read-number-requires-2
+read-number-requires-2 c κs = search needs
+
+read-number-requires-3 : tie.Need-read-number-requires-3
+read-number-requires-3 c κs = search needs
+
+skip-requires : tie.Need-skip-requires
+skip-requires c κs = search needs
+
+returns : tie.Need-returns
+returns c = ?
+
+pub read-register-spec : {M : Type 1} → statement M
+read-register-spec =
+    tie.close
+    (tie.spec
+    stamp-bytes-requires
+    most-stamp-requires
+    read-number-requires
+    read-number-requires-2
+    read-number-requires-3
+    skip-requires
+    returns)
