@@ -1,0 +1,4 @@
+-- Laws, in reading order.
+pub mod Overs
+pub mod Puts
+pub mod Faults
