@@ -2,3 +2,4 @@
 pub mod Overs
 pub mod Puts
 pub mod Faults
+pub mod Outlines
