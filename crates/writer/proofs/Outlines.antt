@@ -5,7 +5,9 @@ use native.Mathlib.Numerals.{add-one}
 use native.Mathlib.Omega.{arith}
 use mathlib.Core.Path.{_≡_, refl, sym, ap, _∙_}
 use lib.Pow.{pow-mono}
+use Rattle.quorums.specs.Sum.{sum}
 use Rattle.format.specs.Bytes.{stands, marks}
+use Rattle.format.specs.Table.{fieldMap}
 use Rattle.format.proofs.Marks.{marks-none, marks-next, marks-lt}
 
 -- after n of 16 turns: the map of the first n marks, and the worth of bit n
@@ -38,3 +40,9 @@ pub marked-all : {n : ℕ} {f : ℕ → ℕ} {map power : ℕ} → Marked n f ma
 marked-all {n} {f} {map} {power} s l =
     let e : n ≡ 16 = omega arith in
     (s .is-map ∙ ap (λ (k : ℕ). marks k f) e, omega (arith, marked-room s .0, marked-room s .1))
+
+-- the map of a message, bit by bit
+pub map-sum : (desk round register rows note : ℕ)
+    → fieldMap desk round register rows note ≡ 3 + 4 * stands desk + 8 * stands round + 16 * stands register + 32 * stands rows + 64 * stands note
+unfolding fieldMap marks sum stands
+map-sum desk round register rows note = omega arith
