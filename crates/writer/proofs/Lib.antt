@@ -3,3 +3,5 @@ pub mod Overs
 pub mod Puts
 pub mod Faults
 pub mod Outlines
+pub mod Rows
+pub mod Ranges

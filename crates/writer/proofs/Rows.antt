@@ -1,0 +1,56 @@
+-- Rows as the loops see them: a row is a part of the cells, stands by its count and its cell map, and is so many bytes long.
+use Prim.Native.Nat.{ℕ, zero, suc, _+_, _*_, _<_, _≤_}
+use native.Mathlib.Numerals.{add-one}
+use native.Mathlib.Omega.{arith}
+use mathlib.Core.Path.{_≡_, refl, sym, ap, _∙_}
+use mathlib.Core.List.{List, _++_}
+use lib.ListN.{length, getD, take, drop, length-append}
+use lib.Seq.{getD-take, getD-drop}
+use Rattle.quorums.specs.Sum.{sum}
+use Rattle.quorums.proofs.Sums.{sum-same}
+use Rattle.format.specs.Bytes.{number, series, stands, marks}
+use Rattle.format.specs.Table.{cellMap, cells, rowMark, row}
+use Rattle.format.proofs.Lengths.{number-length, series-next}
+use Rattle.format.proofs.Marks.{stands-same, same-stands, marks-stands, marks-same}
+
+-- the cells of a part of all cells
+pub part-cell : (all : List ℕ) (n a j : ℕ) → j < n → getD (take n (drop a all)) j 0 ≡ getD all (a + j) 0
+part-cell all n a j h = getD-take n (drop a all) j 0 h ∙ getD-drop a all j 0
+
+pub part-map : (all : List ℕ) (n a : ℕ) → n ≡ 16 → cellMap (λ j. getD (take n (drop a all)) j 0) ≡ cellMap (λ j. getD all (a + j) 0)
+unfolding cellMap
+part-map all n a e = marks-same 16 _ _ (λ j h. part-cell all n a j (omega arith))
+
+pub part-sum : (all : List ℕ) (n a : ℕ) → n ≡ 16
+    → sum 16 (λ j. stands (getD (take n (drop a all)) j 0)) ≡ sum 16 (λ j. stands (getD all (a + j) 0))
+part-sum all n a e = sum-same 16 _ _ (λ j h. ap stands (part-cell all n a j (omega arith)))
+
+-- a row stands where its count or its cell map does
+pub row-stands : (count : ℕ) (cell : ℕ → ℕ) → stands (count + cellMap cell) ≡ stands (rowMark count cell)
+unfolding cellMap rowMark
+row-stands count cell =
+    stands-same (count + marks 16 cell) (count + sum 16 cell)
+    (λ e. omega (arith, same-stands (marks 16 cell) (sum 16 cell) (marks-stands 16 cell) (omega arith)))
+    (λ e. omega (arith, same-stands (sum 16 cell) (marks 16 cell) (sym (marks-stands 16 cell)) (omega arith)))
+
+cells-length : (n : ℕ) (cell : ℕ → ℕ) → length (series n (λ j. number (cell j) 4 (cell j))) ≡ 4 * sum n (λ j. stands (cell j))
+unfolding series sum
+cells-length zero cell = refl
+cells-length (suc n) cell =
+    length-append (series n (λ j. number (cell j) 4 (cell j))) (number (cell n) 4 (cell n))
+    ∙ omega (arith, cells-length n cell, number-length (cell n) 4 (cell n))
+
+pub row-length : (count : ℕ) (cell : ℕ → ℕ) → length (row count cell) ≡ 4 * stands (rowMark count cell) + 4 * sum 16 (λ j. stands (cell j))
+unfolding row cells
+row-length count cell =
+    let m = rowMark count cell in
+    length-append (number m 2 count ++ number m 2 (cellMap cell)) (series 16 (λ j. number (cell j) 4 (cell j)))
+    ∙ omega (arith, length-append (number m 2 count) (number m 2 (cellMap cell)), number-length m 2 count, number-length m 2 (cellMap cell), cells-length 16 cell)
+
+-- one row more
+pub rows-next : (count : ℕ → ℕ) (cell : ℕ → ℕ → ℕ) (i bytes m n : ℕ) → bytes ≡ length (series i (λ k. row (count k) (cell k)))
+    → m ≡ stands (rowMark (count i) (cell i)) → n ≡ sum 16 (λ j. stands (cell i j))
+    → bytes + (4 * m + 4 * n) ≡ length (series (i + 1) (λ k. row (count k) (cell k)))
+rows-next count cell i bytes m n e a b =
+    let f : ℕ → List ℕ = λ k. row (count k) (cell k) in
+    rw (add-one, series-next) (omega (arith, length-append (series i f) (f i), row-length (count i) (cell i)))
