@@ -6,7 +6,7 @@ use native.Mathlib.Omega.{arith}
 use mathlib.Core.Path.{_≡_, refl, sym, ap, _∙_}
 use mathlib.Core.List.{List, [], _∷_, _++_, append-assoc, append-nil}
 use lib.ListN.{length, getD, take, drop, set, length-append, length-drop, length-set, length-take, drop-of-length-le}
-use lib.Seq.{drop-cons, take-append-seam, drop-append-seam, drop-drop, getD-set-same, drop-set-lt, set-append-seam}
+use lib.Seq.{take-all, drop-cons, take-append-seam, drop-append-seam, drop-drop, getD-set-same, drop-set-lt, set-append-seam}
 use Rattle.message.specs.Answers.{over}
 
 pub over-nothing : (l : List ℕ) → over [] l ≡ l
@@ -38,12 +38,54 @@ over-next a l b h =
     ∙ set-append-seam a (getD l (length a) 0) (drop (suc (length a)) l) b
     ∙ rw (n, append-assoc)
 
--- e is written, and the rest of the buffer is lent and comes back with f at its front
-pub over-lent : (e f l xs ys : List ℕ) (p : ℕ) → xs ≡ over e l → p ≡ length e → ys ≡ over f (drop p xs)
-    → take p xs ++ (ys ++ drop (length xs - p) (drop p xs)) ≡ over (e ++ f) l
-unfolding over
-over-lent e f l xs ys p out at given =
-    let t : take p xs ≡ e = rw (out, at) (take-append-seam e (drop (length e) l)) in
-    let d : drop p xs ≡ drop (length e) l = rw (out, at) (drop-append-seam e (drop (length e) l)) in
-    let z : drop (length xs - p) (drop p xs) ≡ [] = drop-of-length-le (drop p xs) {i = length xs - p} (rw length-drop (le-refl (length xs - p))) in
-    rw (z, t, append-nil, given, d, drop-drop, length-append, append-assoc)
+-- ---- writers one after the other, each on what is left of the buffer
+
+-- the part of a buffer from p on, as it is lent, and the buffer when that part has come back as ys
+abbrev pub lent : ℕ → List ℕ → List ℕ
+lent p xs = take (length xs - p) (drop p xs)
+
+abbrev pub back : ℕ → List ℕ → List ℕ → List ℕ
+back p xs ys = take p xs ++ (ys ++ drop (length xs - p) (drop p xs))
+
+-- so far e is written over the entry's buffer, and p is the place after it
+pub record Written (e entry out : List ℕ) (p : ℕ) : Type 0 where
+  pub is-buffer : out ≡ over e entry
+  pub is-place : p ≡ length e
+  pub room : length e ≤ length entry
+
+pub written-none : (l : List ℕ) → Written [] l l 0
+written-none l = record { is-buffer = sym (over-nothing l); is-place = refl; room = omega arith }
+
+pub written-length : {e l out : List ℕ} {p : ℕ} → Written e l out p → length out ≡ length l
+written-length {e} {l} w = ap length (w .is-buffer) ∙ over-length e l (w .room)
+
+pub written-place : {e l out : List ℕ} {p : ℕ} → Written e l out p → p ≤ length out
+written-place w = omega (arith, w .is-place, w .room, written-length w)
+
+-- a list that is part of one with room has room
+pub room-first : (e f l : List ℕ) → length (e ++ f) ≤ length l → length e ≤ length l
+room-first e f l h = omega (arith, length-append e f)
+
+module _ {e l out : List ℕ} {p : ℕ} (w : Written e l out p) where
+  -- what is lent is what is left
+  lent-left : lent p out ≡ drop (length e) l
+  unfolding over
+  lent-left =
+      take-all (length out - p) (drop p out) (rw length-drop (le-refl (length out - p)))
+      ∙ rw (w .is-place, w .is-buffer) (drop-append-seam e (drop (length e) l))
+
+  pub written-lent : (f : List ℕ) → length (e ++ f) ≤ length l → length f ≤ length (lent p out)
+  written-lent f h = rw (lent-left, length-drop) (omega (arith, length-append e f))
+
+  -- the buffer with f where it was lent
+  back-over : (f ys : List ℕ) → ys ≡ over f (lent p out) → back p out ys ≡ over (e ++ f) l
+  unfolding over
+  back-over f ys given =
+      let first : take p out ≡ e = rw (w .is-place, w .is-buffer) (take-append-seam e (drop (length e) l)) in
+      let none : drop (length out - p) (drop p out) ≡ [] =
+          drop-of-length-le (drop p out) {i = length out - p} (rw length-drop (le-refl (length out - p))) in
+      rw (none, first, append-nil, given, lent-left, drop-drop, length-append, append-assoc)
+
+  pub written-next : (f ys : List ℕ) (r : ℕ) → length (e ++ f) ≤ length l → ys ≡ over f (lent p out) → r ≡ length f
+      → Written (e ++ f) l (back p out ys) (p + r)
+  written-next f ys r h given n = record { is-buffer = back-over f ys given; is-place = omega (arith, w .is-place, length-append e f); room = h }
