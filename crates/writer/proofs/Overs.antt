@@ -7,6 +7,8 @@ use mathlib.Core.Path.{_≡_, refl, sym, ap, _∙_}
 use mathlib.Core.List.{List, [], _∷_, _++_, append-assoc, append-nil}
 use lib.ListN.{length, getD, take, drop, set, length-append, length-drop, length-set, length-take, drop-of-length-le}
 use lib.Seq.{take-all, drop-cons, take-append-seam, drop-append-seam, drop-drop, getD-set-same, drop-set-lt, set-append-seam}
+use Rattle.format.specs.Bytes.{series}
+use Rattle.format.proofs.Lengths.{series-next, series-fits}
 use Rattle.message.specs.Answers.{over}
 
 pub over-nothing : (l : List ℕ) → over [] l ≡ l
@@ -89,3 +91,11 @@ module _ {e l out : List ℕ} {p : ℕ} (w : Written e l out p) where
   pub written-next : (f ys : List ℕ) (r : ℕ) → length (e ++ f) ≤ length l → ys ≡ over f (lent p out) → r ≡ length f
       → Written (e ++ f) l (back p out ys) (p + r)
   written-next f ys r h given n = record { is-buffer = back-over f ys given; is-place = omega (arith, w .is-place, length-append e f); room = h }
+
+-- ---- the parts of a series, one a turn
+
+pub series-room : (n m : ℕ) (f : ℕ → List ℕ) (l : List ℕ) → n < m → length (series m f) ≤ length l → length (series n f ++ f n) ≤ length l
+series-room n m f l h room = omega (arith, length-append (series n f) (f n), series-fits n m f h)
+
+pub written-turn : (n : ℕ) (f : ℕ → List ℕ) {l out : List ℕ} {p : ℕ} → Written (series n f ++ f n) l out p → Written (series (n + 1) f) l out p
+written-turn n f w = rw (add-one, series-next) w
