@@ -3,5 +3,6 @@ pub mod Overs
 pub mod Puts
 pub mod Faults
 pub mod Outlines
-pub mod Rows
 pub mod Ranges
+pub mod Rows
+pub mod Registers

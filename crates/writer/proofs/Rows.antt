@@ -10,7 +10,7 @@ use Rattle.quorums.specs.Sum.{sum}
 use Rattle.quorums.proofs.Sums.{sum-same}
 use Rattle.format.specs.Bytes.{number, series, stands, marks}
 use Rattle.format.specs.Table.{cellMap, cells, rowMark, row}
-use Rattle.format.proofs.Lengths.{number-length, series-next}
+use Rattle.format.proofs.Lengths.{number-length, number-same, series-next}
 use Rattle.format.proofs.Marks.{stands-same, same-stands, marks-stands, marks-same}
 
 -- the cells of a part of all cells
@@ -54,3 +54,11 @@ pub rows-next : (count : ℕ → ℕ) (cell : ℕ → ℕ → ℕ) (i bytes m n 
 rows-next count cell i bytes m n e a b =
     let f : ℕ → List ℕ = λ k. row (count k) (cell k) in
     rw (add-one, series-next) (omega (arith, length-append (series i f) (f i), row-length (count i) (cell i)))
+
+-- the bytes of a row, from its count, its cell map and its cells
+pub row-written : (count map : ℕ) (cell : ℕ → ℕ) → map ≡ cellMap cell
+    → number (count + map) 2 count ++ number (count + map) 2 map ++ cells cell ≡ row count cell
+unfolding row
+row-written count map cell e =
+    let s : stands (count + map) ≡ stands (rowMark count cell) = rw e (row-stands count cell) in
+    rw (number-same (count + map) (rowMark count cell) 2 count s, number-same (count + map) (rowMark count cell) 2 map s, e)
