@@ -119,8 +119,8 @@ loop-again c =
     let ledger = c .before .before .before .before .before .before .before .before .before .before .before .args .ledger in
     let r = c .before .before .before .before .row-marks in
     let m = c .before .before .mark in
-    let map-is : r .result .map ≡ cellMap (cellOf ledger (l .i)) = r .ensures .0 ∙ part-map (ledger .cells) (l .i * 16 + 16 - l .i * 16) (l .i * 16) (omega arith) in
-    let cells-is : r .result .cells ≡ sum 16 (λ j. stands (cellOf ledger (l .i) j)) = r .ensures .1 ∙ part-sum (ledger .cells) (l .i * 16 + 16 - l .i * 16) (l .i * 16) (omega arith) in
+    let map-is : r .result .map ≡ cellMap (cellOf ledger (l .i)) = r .ensures .0 ∙ part-map (ledger .cells) (l .i) in
+    let cells-is : r .result .cells ≡ sum 16 (λ j. stands (cellOf ledger (l .i) j)) = r .ensures .1 ∙ part-sum (ledger .cells) (l .i) in
     let mark-is : m .result ≡ stands (rowMark (countOf ledger (l .i)) (cellOf ledger (l .i))) =
         m .ensures .0 ∙ ap (λ (x : ℕ). stands (countOf ledger (l .i) + x)) map-is ∙ row-stands _ _ in
     (marked-next (l .inv .0) (c .before .before .before .before .before .before .before .loop-test .taken) _ mark-is,
