@@ -6,3 +6,4 @@ pub mod Outlines
 pub mod Ranges
 pub mod Rows
 pub mod Registers
+pub mod Messages
