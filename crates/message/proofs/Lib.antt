@@ -1,2 +1,5 @@
+-- Laws: reading and writing undo each other, and the writer's number is the reader's.
 pub mod Sticky
+pub mod Stuck
 pub mod Parts
+pub mod Moves
