@@ -3,3 +3,5 @@ pub mod Sticky
 pub mod Stuck
 pub mod Parts
 pub mod Moves
+pub mod Cells
+pub mod Rows

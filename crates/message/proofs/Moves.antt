@@ -27,6 +27,12 @@ at-place p x = record { number = 0; at = p; x = x }
 abbrev pub behind : List ℕ → ℕ → Cursor
 behind pre x = at-place (length pre) x
 
+pub stands-behind : (c : Cursor) (pre : List ℕ) (x : ℕ) → c ≡ behind pre x → Stands c pre
+stands-behind c pre x e = record { none = ap (λ (d : Cursor). d .number) e; place = ap (λ (d : Cursor). d .at) e }
+
+pub stands-at : {c d : Cursor} {pre : List ℕ} → c ≡ d → Stands d pre → Stands c pre
+stands-at e h = record { none = ap (λ (d : Cursor). d .number) e ∙ h .none; place = ap (λ (d : Cursor). d .at) e ∙ h .place }
+
 pub behind-stands : (pre : List ℕ) (x : ℕ) → Stands (behind pre x) pre
 behind-stands pre x = record { none = refl; place = refl }
 

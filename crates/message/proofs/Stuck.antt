@@ -1,6 +1,6 @@
 -- Every step of a reader keeps a number that isn't 0.
 use Prim.Native.Nat.{ℕ, zero, suc, _≤_, _<_}
-use mathlib.Core.Path.{_≡_, refl}
+use mathlib.Core.Path.{_≡_, ap, _∙_}
 use mathlib.Core.Logic.{⊎-elim}
 use mathlib.Core.Bool.{Bool}
 use mathlib.Core.List.{List}
@@ -16,6 +16,9 @@ use Rattle.message.specs.Scans.{cellsAfter, cellMapOf, readCount, rowOf,
 -- the cursor has the number k, which isn't 0
 pub record Stuck (c : Cursor) (k : ℕ) : Type 0 where
   pub has : c .number ≡ suc k
+
+pub stuck-at : {c d : Cursor} {k : ℕ} → c ≡ d → Stuck d k → Stuck c k
+stuck-at e h = record { has = ap (λ (d : Cursor). d .number) e ∙ h .has }
 
 pub readNumber-stuck : (msg : List ℕ) (s w low high : ℕ) (c : Cursor) (k : ℕ) → Stuck c k → Stuck (readNumber msg s w low high c) k
 unfolding readNumber
