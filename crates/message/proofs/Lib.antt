@@ -5,3 +5,4 @@ pub mod Parts
 pub mod Moves
 pub mod Cells
 pub mod Rows
+pub mod Sheets

@@ -31,10 +31,11 @@ pub record RowGood (n i count : ℕ) (cell : ℕ → ℕ) : Type 0 where
   pub fits : totalFits count (sum 16 cell) ≡ true
   pub placed : (j : ℕ) → j < 16 → (cell j ≡ 0) ⊎ Placed n i j
 
--- A reader stands before the bytes of a row, of a giver below n.
+-- A reader stands before the bytes of a row, which is absent or of a giver below n.
 pub record AtRow (c : Config) (msg pre t : List ℕ) (from : Cursor) (i count : ℕ) (cell : ℕ → ℕ) : Type 0 where
   pub small : c .n ≤ 16
-  pub giver : i < c .n
+  pub index : i < 16
+  pub giver : 0 < rowMark count cell → i < c .n
   pub count-fits : count ≤ 65535
   pub cell-fits : (j : ℕ) → cell j ≤ 4294967295
   pub stands-there : Stands from pre
@@ -160,7 +161,7 @@ module _ (c : Config) (msg pre t : List ℕ) (from : Cursor) (i count : ℕ) (ce
 
   own-bit : cell i ≡ 0 → eqb (bit (cellMap cell) i) 0 ≡ true
   unfolding cellMap
-  own-bit z = eq-eqb _ 0 (bit-marks 16 cell i (omega (arith, a .small, a .giver)) ∙ ap stands z ∙ stands-none)
+  own-bit z = eq-eqb _ 0 (bit-marks 16 cell i (a .index) ∙ ap stands z ∙ stands-none)
 
   map-read : (0 < rowMark count cell → 1 ≤ cellMap cell) → cellMap cell < 2 ^ c .n → cell i ≡ 0
       → cellMapOf c msg i (stands (rowMark count cell)) (behind behind-count count) ≡ behind behind-map (cellMap cell)
@@ -282,7 +283,7 @@ module _ (c : Config) (msg pre t : List ℕ) (from : Cursor) (i count : ℕ) (ce
   row-found g =
       front-found
       (front (count-stands (c .n) i count cell g) (map-of-mark (c .n) i count cell g) (map-below (c .n) i count cell (a .small) g)
-      (own-empty (c .n) i count cell (omega (arith, a .small, a .giver)) g))
+      (own-empty (c .n) i count cell (a .index) g))
       (g .fits)
 
   -- ---- a row that isn't good
@@ -308,7 +309,7 @@ module _ (c : Config) (msg pre t : List ℕ) (from : Cursor) (i count : ℕ) (ce
 
   own-marked : 0 < cell i → eqb (bit (cellMap cell) i) 0 ≡ false
   unfolding cellMap
-  own-marked z = ne-eqb (bit (marks 16 cell) i) 0 (λ e. omega (arith, e, bit-marks 16 cell i (omega (arith, a .small, a .giver)), stands-pos (cell i) z))
+  own-marked z = ne-eqb (bit (marks 16 cell) i) 0 (λ e. omega (arith, e, bit-marks 16 cell i (a .index), stands-pos (cell i) z))
 
   own-refused : 0 < rowMark count cell → 1 ≤ count → 1 ≤ cellMap cell → cellMap cell < 2 ^ c .n → 0 < cell i
       → Stuck (rowOf c msg i (stands (rowMark count cell)) from .cursor) 3
@@ -330,17 +331,17 @@ module _ (c : Config) (msg pre t : List ℕ) (from : Cursor) (i count : ℕ) (ce
       (λ (q : 0 < cellMap cell).
       ⊎-elim (λ (z : 2 ^ c .n ≤ cellMap cell). inr (map-refused h p (above-range 1 _ (cellMap cell) (omega (arith, pow-pos (c .n))))))
       (λ (b : cellMap cell < 2 ^ c .n).
-      ⊎-elim (λ (z : cell i ≤ 0). by-total p q b (omega arith)) (λ (z : 0 < cell i). inr (own-refused h p q b z)) (le-or-lt (cell i) 0))
+      ⊎-elim (λ (z : cell i ≤ 0). by-total h p q b (omega arith)) (λ (z : 0 < cell i). inr (own-refused h p q b z)) (le-or-lt (cell i) 0))
       (le-or-lt (2 ^ c .n) (cellMap cell)))
       (le-or-lt (cellMap cell) 0))
       (le-or-lt count 0))
       (le-or-lt (rowMark count cell) 0)
     where
-      by-total : 1 ≤ count → 1 ≤ cellMap cell → cellMap cell < 2 ^ c .n → cell i ≡ 0
+      by-total : 0 < rowMark count cell → 1 ≤ count → 1 ≤ cellMap cell → cellMap cell < 2 ^ c .n → cell i ≡ 0
           → RowGood (c .n) i count cell ⊎ Stuck (rowOf c msg i (stands (rowMark count cell)) from .cursor) 3
-      by-total p q b z = by-test (totalFits count (sum 16 cell)) refl
+      by-total h p q b z = by-test (totalFits count (sum 16 cell)) refl
         where
           by-test : (d : Bool) → totalFits count (sum 16 cell) ≡ d
               → RowGood (c .n) i count cell ⊎ Stuck (rowOf c msg i (stands (rowMark count cell)) from .cursor) 3
-          by-test true e = inl (record { fits = e; placed = λ j l. placed-cell (c .n) i cell j l (a .giver) b z })
-          by-test false e = inr (front-refused (front (λ h. p) (λ h. q) b z) e)
+          by-test true e = inl (record { fits = e; placed = λ j l. placed-cell (c .n) i cell j l (a .giver h) b z })
+          by-test false e = inr (front-refused (front (λ k. p) (λ k. q) b z) e)

@@ -61,6 +61,10 @@ rows-stuck c msg m from k i (suc n) l h =
     ⊎-elim (λ (d : i ≡ suc n). rw d at h) (λ (d : i < suc n). row-stuck c msg n _ _ k (rows-stuck c msg m from k i n (omega arith) h))
     (below-suc (omega arith))
 
+pub rows-none : (c : Config) (msg : List ℕ) (m : ℕ) (from : Cursor) (k : ℕ) → Stuck from k → Stuck (rowsAfter c msg m from 0) k
+unfolding rowsAfter
+rows-none c msg m from k h = h
+
 pub register-stuck : (c : Config) (msg : List ℕ) (s : ℕ) (from : Cursor) (k : ℕ) → Stuck from k → Stuck (registerOf c msg s from .cursor) k
 unfolding registerOf
 register-stuck c msg s from k h =
