@@ -6,3 +6,4 @@ pub mod Moves
 pub mod Cells
 pub mod Rows
 pub mod Sheets
+pub mod Heads
