@@ -7,3 +7,4 @@ pub mod Cells
 pub mod Rows
 pub mod Sheets
 pub mod Heads
+pub mod Registers
