@@ -8,3 +8,4 @@ pub mod Rows
 pub mod Sheets
 pub mod Heads
 pub mod Registers
+pub mod Faults

@@ -9,9 +9,10 @@ use native.Mathlib.Omega.{arith}
 use Rattle.quorums.proofs.Sums.{below-suc}
 use Rattle.config.specs.declared.cluster.Config.{Config}
 use Rattle.ledger.specs.declared.ledger.Ledger.{Ledger}
+use Rattle.format.specs.Bytes.{bit}
 use Rattle.message.specs.declared.state.Cursor.{Cursor}
 use Rattle.message.specs.Cursors.{readNumber, skip, require}
-use Rattle.message.specs.Scans.{cellsAfter, cellMapOf, readCount, rowOf, rowsAfter, registerOf, sheetOf, readNote, endOf}
+use Rattle.message.specs.Scans.{cellsAfter, cellMapOf, readCount, rowOf, rowsAfter, headOf, registerOf, sheetOf, readNote, endOf, scanOf}
 
 -- the cursor has the number k, which isn't 0
 pub record Stuck (c : Cursor) (k : ℕ) : Type 0 where
@@ -70,6 +71,10 @@ unfolding registerOf
 register-stuck c msg s from k h =
     skip-stuck msg _ _ k (readNumber-stuck msg _ _ _ _ _ k (readNumber-stuck msg _ _ _ _ _ k (readNumber-stuck msg _ _ _ _ _ k h)))
 
+pub sheet-stuck : (c : Config) (msg : List ℕ) (s : ℕ) (from : Cursor) (k : ℕ) → Stuck from k → Stuck (sheetOf c msg s from .cursor) k
+unfolding sheetOf
+sheet-stuck c msg s from k h = rows-stuck c msg _ _ k 0 16 (omega arith) (rows-none c msg _ _ k (readNumber-stuck msg _ _ _ _ _ k h))
+
 pub note-stuck : (msg : List ℕ) (s : ℕ) (from : Cursor) (k : ℕ) → Stuck from k → Stuck (readNote msg s from) k
 unfolding readNote
 note-stuck msg s from k h = readNumber-stuck msg _ _ _ _ _ k h
@@ -77,3 +82,18 @@ note-stuck msg s from k h = readNumber-stuck msg _ _ _ _ _ k h
 pub end-stuck : (c : Config) (msg : List ℕ) (l : Ledger) (note : Cursor) (k : ℕ) → Stuck note k → Stuck (endOf c msg l note) k
 unfolding endOf
 end-stuck c msg l note k h = require-stuck _ _ _ k (require-stuck _ _ note k h)
+
+-- ---- a message that was refused at its head, register or sheet
+
+pub scan-stuck-sheet : (c : Config) (msg : List ℕ) (k : ℕ)
+    → Stuck (sheetOf c msg (bit (headOf c msg .map) 5) (registerOf c msg (bit (headOf c msg .map) 4) (headOf c msg .cursor) .cursor) .cursor) k
+    → scanOf c msg .number ≡ suc k
+unfolding scanOf
+scan-stuck-sheet c msg k h = end-stuck c msg _ _ k (note-stuck msg _ _ k h) .has
+
+pub scan-stuck-register : (c : Config) (msg : List ℕ) (k : ℕ) → Stuck (registerOf c msg (bit (headOf c msg .map) 4) (headOf c msg .cursor) .cursor) k
+    → scanOf c msg .number ≡ suc k
+scan-stuck-register c msg k h = scan-stuck-sheet c msg k (sheet-stuck c msg _ _ k h)
+
+pub scan-stuck-head : (c : Config) (msg : List ℕ) (k : ℕ) → Stuck (headOf c msg .cursor) k → scanOf c msg .number ≡ suc k
+scan-stuck-head c msg k h = scan-stuck-register c msg k (register-stuck c msg _ _ k h)
