@@ -26,7 +26,7 @@ use Rattle.message.specs.declared.state.Scan.{Scan}
 use Rattle.message.specs.Headers.{fieldsOf, encode, Typed}
 use Rattle.message.specs.Cursors.{within, readNumber}
 use Rattle.message.specs.Scans.{headOf, registerOf, sheetOf, readNote, endOf, scanOf}
-use Rattle.message.specs.Answers.{check}
+use Rattle.message.specs.Answers.{check, Decoded, decode}
 use Rattle.message.specs.Faults.{kindFits, registerFits, test, faultOf}
 use Rattle.message.proofs.Stuck.{Stuck, stuck-at, scan-stuck-head, scan-stuck-register, scan-stuck-sheet}
 use Rattle.message.proofs.Moves.{Stands, behind, behind-stands, stands-at, move, require-passes, require-refuses}
@@ -314,3 +314,34 @@ fault-is-check c h v ty = by-valid (validOf c) refl
         (test (registerFits (h .tag .stamp) (h .tag .desk) (length v)) 4 (test (bounded c (h .ledger)) 4 (test (aboveFloor c (h .ledger)) 5 0))))))
     by-valid true e = number-is c h v ty e
     by-valid false e = refl
+
+-- ---- what the writer takes is found again
+
+passed : (b : Bool) (k r : ℕ) → test b (suc k) r ≡ 0 → (b ≡ true) × (r ≡ 0)
+passed true k r e = (refl, e)
+passed false k r e = absurd (omega arith)
+
+found : (c : Config) (h : Header) (v : List ℕ) → Typed h v → faultOf c h (length v) ≡ 0
+    → (scanOf c (encode c h v) .header ≡ h) × (take (scanOf c (encode c h v) .length) (drop (scanOf c (encode c h v) .from) (encode c h v)) ≡ v)
+unfolding faultOf valuePlace
+found c h v ty e =
+    let valid = passed (validOf c) 0 _ e in
+    let kind = passed (within 1 3 (h .kind)) 3 _ (valid .1) in
+    let fields = passed (kindFits (h .kind) (h .desk) (h .round) (h .note)) 2 _ (kind .1) in
+    let server = passed (ltb (h .server) (c .n)) 3 _ (fields .1) in
+    let register = passed (registerFits (h .tag .stamp) (h .tag .desk) (length v)) 3 _ (server .1) in
+    let bounds = passed (bounded c (h .ledger)) 3 _ (register .1) in
+    let is =
+    scan-is c h v ty (valid .0) (record { kind-good = kind .0; fields-good = fields .0; server-good = ltb-true _ _ (server .0) }) (register .0) (bounds .0) in (
+      ap (λ (s : Scan). s .header) is,
+      ap (λ (s : Scan). take (s .length) (drop (s .from) (encode c h v))) is
+          ∙ registers.value-found c _ _ _ _ _ _ v (at-register c h v ty (valid .0)),
+    )
+
+-- reading undoes writing
+pub decode-encode : (c : Config) (h : Header) (v : List ℕ) → Typed h v → check c (encode c h v) ≡ 0
+    → decode c (encode c h v) ≡ record { number = 0; header = h; value = v }
+unfolding decode
+decode-encode c h v ty e =
+    let f = found c h v ty (sym (fault-is-check c h v ty) ∙ e) in
+    simp (eq-eqb (check c (encode c h v)) 0 e) (ap₂ {C = Decoded} (λ x y. record { number = 0; header = x; value = y }) (f .0) (f .1))
