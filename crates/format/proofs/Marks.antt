@@ -53,6 +53,11 @@ pub marks-same : (n : ℕ) (f g : ℕ → ℕ) → ((k : ℕ) → k < n → f k 
 unfolding marks
 marks-same n f g h = sum-same n _ _ (λ k l. ap (λ x. stands x * 2 ^ k) (h k l))
 
+-- a map rests on what stands alone
+pub marks-stand : (n : ℕ) (f g : ℕ → ℕ) → ((k : ℕ) → k < n → stands (f k) ≡ stands (g k)) → marks n f ≡ marks n g
+unfolding marks
+marks-stand n f g h = sum-same n _ _ (λ k l. ap (λ x. x * 2 ^ k) (h k l))
+
 -- what the highest mark adds: nothing or 2 ^ n
 top : (x n : ℕ) → (stands x * 2 ^ n ≡ 0) ⊎ (stands x * 2 ^ n ≡ 2 ^ n)
 unfolding stands

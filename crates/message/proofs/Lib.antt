@@ -9,3 +9,4 @@ pub mod Sheets
 pub mod Heads
 pub mod Registers
 pub mod Faults
+pub mod Backs
