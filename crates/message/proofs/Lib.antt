@@ -10,3 +10,4 @@ pub mod Heads
 pub mod Registers
 pub mod Faults
 pub mod Backs
+pub mod SheetBacks
