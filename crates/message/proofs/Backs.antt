@@ -25,6 +25,18 @@ pub record Passed (msg : List ℕ) (c : Cursor) (pre : List ℕ) : Type 0 where
   pub there : c .at ≤ length msg
   pub taken : take (c .at) msg ≡ pre
 
+pub moved : {msg pre post : List ℕ} {c : Cursor} → pre ≡ post → Passed msg c pre → Passed msg c post
+moved e p = record { none = p .none; place = p .place ∙ ap length e; there = p .there; taken = p .taken ∙ e }
+
+pub at : {msg pre : List ℕ} {c d : Cursor} → d ≡ c → Passed msg c pre → Passed msg d pre
+at {msg} e p =
+    record {
+      none = ap (λ (x : Cursor). x .number) e ∙ p .none;
+      place = ap (λ (x : Cursor). x .at) e ∙ p .place;
+      there = rw (ap (λ (x : Cursor). x .at) e) (p .there);
+      taken = ap (λ (x : Cursor). take (x .at) msg) e ∙ p .taken;
+    }
+
 -- ---- the bytes of the number that w bytes hold are those bytes
 
 bytes-back : (msg : List ℕ) → Bytes msg → (at w : ℕ) → at + w ≤ length msg → bytes w (numberAt msg at w) ≡ take w (drop at msg)

@@ -11,3 +11,4 @@ pub mod Registers
 pub mod Faults
 pub mod Backs
 pub mod SheetBacks
+pub mod FieldBacks

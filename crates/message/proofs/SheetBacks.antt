@@ -7,7 +7,7 @@ use mathlib.Core.List.{List, _++_, append-assoc, append-nil}
 use borrow.Author.Tests.{eqb-true}
 use lib.Dec.{eqb}
 use lib.Pow.{pow-mono}
-use lib.ListN.{length, getD, take}
+use lib.ListN.{length, getD}
 use Rattle.quorums.specs.Sum.{sum}
 use Rattle.quorums.proofs.Sums.{sum-zero, below-suc}
 use Rattle.config.specs.declared.cluster.Config.{Config}
@@ -26,7 +26,7 @@ use Rattle.message.specs.Headers.{Bytes}
 use Rattle.message.specs.Cursors.{readNumber, require}
 use Rattle.message.specs.Scans.{cellsAfter, cellRead, readCount, cellMapOf, rowCells, rowOf, rowsAfter, countRead, cellOfRow, ledgerRead, sheetOf}
 use Rattle.message.proofs.Sticky.{readNumber-open, require-open, cells-open, row-open, rows-open}
-use Rattle.message.proofs.Backs.{Passed, Got, number-got, got-mark, own-mark, require-got}
+use Rattle.message.proofs.Backs.{Passed, moved, at, Got, number-got, got-mark, own-mark, require-got}
 
 -- ---- cells
 
@@ -77,18 +77,6 @@ module _ (msg : List ℕ) (b : Bytes msg) (m : ℕ) (c : Cursor) (pre : List ℕ
 mark-is : (n : ℕ) (cell : ℕ → ℕ) → (n ≡ 0 → (j : ℕ) → j < 16 → cell j ≡ 0) → stands (rowMark n cell) ≡ stands n
 unfolding rowMark
 mark-is n cell z = stands-same (n + sum 16 cell) n (λ e. omega arith) (λ e. omega (arith, sum-zero 16 cell (z e), e))
-
-moved : {msg pre post : List ℕ} {c : Cursor} → pre ≡ post → Passed msg c pre → Passed msg c post
-moved e p = record { none = p .none; place = p .place ∙ ap length e; there = p .there; taken = p .taken ∙ e }
-
-at : {msg pre : List ℕ} {c d : Cursor} → d ≡ c → Passed msg c pre → Passed msg d pre
-at {msg} e p =
-    record {
-      none = ap (λ (x : Cursor). x .number) e ∙ p .none;
-      place = ap (λ (x : Cursor). x .at) e ∙ p .place;
-      there = rw (ap (λ (x : Cursor). x .at) e) (p .there);
-      taken = ap (λ (x : Cursor). take (x .at) msg) e ∙ p .taken;
-    }
 
 -- What a row without a fault is.
 pub record RowBack (c : Config) (msg : List ℕ) (i s : ℕ) (from : Cursor) (pre : List ℕ) : Type 0 where
