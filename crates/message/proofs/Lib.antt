@@ -12,3 +12,4 @@ pub mod Faults
 pub mod Backs
 pub mod SheetBacks
 pub mod FieldBacks
+pub mod Rounds
