@@ -104,6 +104,25 @@ number-got msg b zero w low high c pre h e =
 number-got msg b (suc s) w low high c pre h e =
     rw (standing-is msg s w low high c (h .none)) (bytes-got msg b s w low high c pre h (rw (standing-is msg s w low high c (h .none)) at e))
 
+-- the number that a step hands on is within its range, or 0
+pub number-most : (msg : List ℕ) (s w low high : ℕ) (c : Cursor) → readNumber msg s w low high c .x ≤ high
+unfolding readNumber readBytes within
+number-most msg s w low high c =
+    by-tests (eqb (c .number) 0) (eqb s 0) (leb (c .at + w) (length msg)) (leb low (numberAt msg (c .at) w)) (leb (numberAt msg (c .at) w) high) refl
+  where
+    by-tests : (a b d e f : Bool) → leb (numberAt msg (c .at) w) high ≡ f
+        → cond a
+        (cond b (stay 0 c)
+        (cond d (cond (cond e f false) (record { number = 0; at = c .at + w; x = numberAt msg (c .at) w }) (stay 4 c)) (stay 2 c)))
+        (stay (c .number) c)
+        .x ≤ high
+    by-tests false b d e f t = omega arith
+    by-tests true true d e f t = omega arith
+    by-tests true false false e f t = omega arith
+    by-tests true false true false f t = omega arith
+    by-tests true false true true false t = omega arith
+    by-tests true false true true true t = leb-true _ _ t
+
 -- a number from 1 on stands where s says so
 pub got-mark : (msg : List ℕ) (s w high : ℕ) (c : Cursor) (pre : List ℕ) → s ≤ 1 → Got msg s w 1 high c pre → stands (c .x) ≡ s
 got-mark msg zero w high c pre l g = ap stands (g .absent refl) ∙ stands-none

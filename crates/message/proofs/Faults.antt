@@ -338,6 +338,19 @@ found c h v ty e =
           ∙ registers.value-found c _ _ _ _ _ _ v (at-register c h v ty (valid .0)),
     )
 
+-- what the writer takes has a good register, and a ledger within bounds
+pub taken-told : (c : Config) (h : Header) (v : List ℕ) → Typed h v → check c (encode c h v) ≡ 0
+    → (registerFits (h .tag .stamp) (h .tag .desk) (length v) ≡ true) × (bounded c (h .ledger) ≡ true)
+unfolding faultOf
+taken-told c h v ty e =
+    let valid = passed (validOf c) 0 _ (sym (fault-is-check c h v ty) ∙ e) in
+    let kind = passed (within 1 3 (h .kind)) 3 _ (valid .1) in
+    let fields = passed (kindFits (h .kind) (h .desk) (h .round) (h .note)) 2 _ (kind .1) in
+    let server = passed (ltb (h .server) (c .n)) 3 _ (fields .1) in
+    let register = passed (registerFits (h .tag .stamp) (h .tag .desk) (length v)) 3 _ (server .1) in
+    let bounds = passed (bounded c (h .ledger)) 3 _ (register .1) in
+    (register .0, bounds .0)
+
 -- reading undoes writing
 pub decode-encode : (c : Config) (h : Header) (v : List ℕ) → Typed h v → check c (encode c h v) ≡ 0
     → decode c (encode c h v) ≡ record { number = 0; header = h; value = v }

@@ -13,3 +13,4 @@ pub mod Backs
 pub mod SheetBacks
 pub mod FieldBacks
 pub mod Rounds
+pub mod Longest

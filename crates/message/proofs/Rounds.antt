@@ -2,13 +2,14 @@
 use Prim.Native.Nat.{ℕ, zero, suc, _+_, _-_, _*_, _/_, _%_, _^_, _<_, _≤_}
 use native.Mathlib.Omega.{arith}
 use mathlib.Core.Path.{_≡_, refl, sym, ap, ap₂, _∙_}
+use mathlib.Core.Logic.{⊎-elim}
 use mathlib.Core.Bool.{Bool, true, false, cond}
 use mathlib.Core.List.{List, [], _∷_, _++_}
 use borrow.Author.Tests.{eqb-true, eq-eqb, ltb-true}
 use lib.Dec.{eqb, ltb}
-use lib.ListN.{length, getD, take, drop}
-use lib.Seq.{take-length}
-use Rattle.quorums.proofs.Tests.{both}
+use lib.ListN.{length, getD, take, drop, length-take, List·getD-eq-default}
+use lib.Seq.{take-length, getD-take, getD-drop}
+use Rattle.quorums.proofs.Tests.{both, le-or-lt}
 use Rattle.config.specs.Cluster.{validOf}
 use Rattle.config.specs.declared.cluster.Config.{Config}
 use Rattle.config.proofs.Clusters.{valid-bounds}
@@ -19,14 +20,14 @@ use Rattle.format.specs.Table.{registerMark, register, rowMap, sheet, fieldMap,
 use Rattle.format.proofs.Marks.{stands-bit, bit-le, marks-bit, marks-stand}
 use Rattle.message.specs.declared.header.Header.{Header}
 use Rattle.message.specs.declared.state.Cursor.{Cursor}
-use Rattle.message.specs.Headers.{fieldsOf, encode, Bytes}
+use Rattle.message.specs.Headers.{fieldsOf, encode, Bytes, Typed}
 use Rattle.message.specs.Cursors.{readNumber, require}
 use Rattle.message.specs.Scans.{mapLawful, headOf, registerOf, sheetOf, readNote, endOf, scanOf}
 use Rattle.message.specs.Answers.{check, Decoded, decode}
 use Rattle.message.proofs.Sticky.{require-open, register-open, sheet-open, note-open, end-open}
 use Rattle.message.proofs.Backs.{Passed, moved, Got, number-got, got-mark, own-mark, require-got}
 use Rattle.message.proofs.FieldBacks.{HeadBack, head-back, RegisterBack, register-back}
-use Rattle.message.proofs.SheetBacks.{SheetBack, sheet-back}
+use Rattle.message.proofs.SheetBacks.{SheetBack, sheet-back, ledger-typed}
 
 -- a lawful map is that of fields that stand where its bits do
 lawful-small : (m : ℕ) → mapLawful m ≡ true → m < 128
@@ -58,6 +59,20 @@ map-back m desk round register rows note l d r g s n =
     marked (suc (suc (suc (suc (suc zero))))) h = s
     marked (suc (suc (suc (suc (suc (suc zero)))))) h = n
     marked (suc (suc (suc (suc (suc (suc (suc k))))))) h = absurd (omega arith)
+
+-- a part of a list of bytes
+part-bytes : (msg : List ℕ) → Bytes msg → (w a : ℕ) → Bytes (take w (drop a msg))
+part-bytes msg b w a =
+    record {
+      byte = λ k.
+          ⊎-elim
+          (λ (l : w ≤ k).
+          let z : getD (take w (drop a msg)) k 0 ≡ 0 =
+          List·getD-eq-default (take w (drop a msg)) 0 (omega (arith, length-take w (drop a msg))) in
+          omega (arith, z))
+          (λ (l : k < w). omega (arith, getD-take w (drop a msg) k 0 l, getD-drop a msg k 0, b .byte (a + k)))
+          (le-or-lt w k);
+    }
 
 module _ (c : Config) (valid : validOf c ≡ true) (msg : List ℕ) (b : Bytes msg) (e : scanOf c msg .number ≡ 0) where
   map : ℕ
@@ -194,6 +209,24 @@ module _ (c : Config) (valid : validOf c ≡ true) (msg : List ℕ) (b : Bytes m
   bytes-back : encode c (scanOf c msg .header) (take (scanOf c msg .length) (drop (scanOf c msg .from) msg)) ≡ msg
   bytes-back = ap₂ (encode c) found-is value-is ∙ found-bytes
 
+  found-typed : Typed found value
+  unfolding found ledger value
+  found-typed =
+      record {
+        kind-fits = omega (arith, head-is .kind-fits);
+        server-fits = omega (arith, head-is .server-fits, valid-bounds c valid .most);
+        desk-fits = head-is .desk-fits;
+        round-fits = head-is .round-fits;
+        stamp-fits = register-is .stamp-fits;
+        tag-desk-fits = register-is .desk-fits;
+        note-fits = note-got .high-holds;
+        ledger-typed = ledger-typed c msg _ _;
+        value-bytes = part-bytes msg b (registerOf c msg (bit map 4) headEnd .length) (registerOf c msg (bit map 4) headEnd .from);
+      }
+
+  scan-typed : Typed (scanOf c msg .header) (take (scanOf c msg .length) (drop (scanOf c msg .from) msg))
+  scan-typed = rw (found-is, value-is) found-typed
+
 check-told : (c : Config) (msg : List ℕ) → check c msg ≡ 0 → (validOf c ≡ true) × (scanOf c msg .number ≡ 0)
 unfolding check
 check-told c msg e = by-valid (validOf c) refl e
@@ -212,3 +245,7 @@ pub encode-decode : (c : Config) (msg : List ℕ) → Bytes msg → check c msg 
 encode-decode c msg b e =
     let t = check-told c msg e in
     ap (λ (d : Decoded). encode c (d .header) (d .value)) (decoded c msg e) ∙ bytes-back c (t .0) msg b (t .1)
+
+-- what the reader takes is a header and a value that a call can have
+pub decode-typed : (c : Config) (msg : List ℕ) → Bytes msg → check c msg ≡ 0 → Typed (decode c msg .header) (decode c msg .value)
+decode-typed c msg b e = let t = check-told c msg e in rw (decoded c msg e) (scan-typed c (t .0) msg b (t .1))

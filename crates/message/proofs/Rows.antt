@@ -73,7 +73,7 @@ map-below n i count cell s g =
     marks-cut 16 n cell s (λ j a b. ⊎-elim (λ (z : cell j ≡ 0). z) (λ (p : Placed n i j). absurd (omega (arith, p .taker))) (g .placed j b)) in
     rw e (marks-lt n cell)
 
-own-empty : (n i count : ℕ) (cell : ℕ → ℕ) → i < 16 → RowGood n i count cell → cell i ≡ 0
+pub own-empty : (n i count : ℕ) (cell : ℕ → ℕ) → i < 16 → RowGood n i count cell → cell i ≡ 0
 own-empty n i count cell l g = ⊎-elim (λ (z : cell i ≡ 0). z) (λ (p : Placed n i i). absurd (p .apart refl)) (g .placed i l)
 
 -- ---- an absent row

@@ -7,9 +7,10 @@ use mathlib.Core.List.{List, _++_, append-assoc, append-nil}
 use borrow.Author.Tests.{eqb-true}
 use lib.Dec.{eqb}
 use lib.Pow.{pow-mono}
-use lib.ListN.{length, getD}
+use lib.ListN.{length, getD, List·getD-eq-default}
 use Rattle.quorums.specs.Sum.{sum}
 use Rattle.quorums.proofs.Sums.{sum-zero, below-suc}
+use Rattle.quorums.proofs.Tests.{le-or-lt}
 use Rattle.config.specs.declared.cluster.Config.{Config}
 use Rattle.ledger.specs.declared.ledger.Ledger.{Ledger}
 use Rattle.ledger.specs.Ledgers.{countOf, cellOf, Typed}
@@ -26,7 +27,7 @@ use Rattle.message.specs.Headers.{Bytes}
 use Rattle.message.specs.Cursors.{readNumber, require}
 use Rattle.message.specs.Scans.{cellsAfter, cellRead, readCount, cellMapOf, rowCells, rowOf, rowsAfter, countRead, cellOfRow, ledgerRead, sheetOf}
 use Rattle.message.proofs.Sticky.{readNumber-open, require-open, cells-open, row-open, rows-open}
-use Rattle.message.proofs.Backs.{Passed, moved, at, Got, number-got, got-mark, own-mark, require-got}
+use Rattle.message.proofs.Backs.{Passed, moved, at, Got, number-got, number-most, got-mark, own-mark, require-got}
 
 -- ---- cells
 
@@ -284,3 +285,21 @@ module _ (c : Config) (small : c .n ≤ 16) (msg : List ℕ) (b : Bytes msg) (s 
             at cursor-of
             (moved (bytes-of-sheet e) (rows-back c small msg b (mapRead .x) mapRead _ (sheet-map-got e .passed) (rows-clean e)));
       })
+
+-- ---- whatever bytes are read, the ledger is one that a call can have
+
+pub table-most : (n : ℕ) (f : ℕ → ℕ) (most : ℕ) → ((i : ℕ) → f i ≤ most) → (k : ℕ) → getD (table n f) k 0 ≤ most
+table-most n f most h k =
+    ⊎-elim (λ (l : n ≤ k). let z : getD (table n f) k 0 ≡ 0 = List·getD-eq-default (table n f) 0 (omega (arith, table-length n f)) in omega (arith, z))
+    (λ (l : k < n). omega (arith, table-at n f k l, h k))
+    (le-or-lt n k)
+
+pub ledger-typed : (c : Config) (msg : List ℕ) (s : ℕ) (from : Cursor) → Typed (sheetOf c msg s from .ledger)
+unfolding sheetOf ledgerRead countRead cellOfRow rowOf rowCells readCount cellRead cellsAfter
+ledger-typed c msg s from =
+    record {
+      counts-length = table-length 16 _;
+      cells-length = table-length 256 _;
+      count-fits = table-most 16 _ 65535 (λ i. number-most msg _ _ _ _ _);
+      cell-fits = table-most 256 _ 4294967295 (λ k. number-most msg _ _ _ _ _);
+    }

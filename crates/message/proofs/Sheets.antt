@@ -44,7 +44,7 @@ placed-told n i j x h e =
     inr (record { giver = omega (arith, p .giver); taker = omega (arith, p .taker); apart = λ d. p .apart (omega arith) }))
     (may-hold-told n (i * 16 + j) x e)
 
-good-rows : (c : Config) (l : Ledger) → bounded c l ≡ true → (i : ℕ) → i < 16 → RowGood (c .n) i (countOf l i) (cellOf l i)
+pub good-rows : (c : Config) (l : Ledger) → bounded c l ≡ true → (i : ℕ) → i < 16 → RowGood (c .n) i (countOf l i) (cellOf l i)
 unfolding givenOf
 good-rows c l b i h =
     let t = bounded-told c l b in
