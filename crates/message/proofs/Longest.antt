@@ -6,26 +6,33 @@ use mathlib.Core.Logic.{⊎-elim}
 use mathlib.Core.Bool.{Bool, true, false, cond}
 use mathlib.Core.List.{List, _++_}
 use lib.Dec.{eqb}
-use lib.ListN.{length, length-append, replicate}
-use Rattle.quorums.specs.Sum.{sum}
+use lib.ListN.{length, length-append, getD, replicate}
+use Rattle.quorums.specs.Sum.{sum, all}
+use Rattle.quorums.specs.Difference.{difference}
+use Rattle.quorums.specs.Accounts.{weight, above}
 use Rattle.quorums.proofs.Sums.{sum-same, sum-le, sum-const, below-suc}
-use Rattle.config.specs.Cluster.{stampBytes, configOf}
+use Rattle.config.specs.Cluster.{configOf, validOf, startOf, totalOf, aboveOf, stampBytes}
 use Rattle.config.specs.declared.cluster.Config.{Config}
 use Rattle.ledger.specs.declared.ledger.Ledger.{Ledger}
-use Rattle.ledger.specs.Ledgers.{countOf, cellOf}
-use Rattle.ledger.specs.Checks.{bounded}
-use Rattle.format.specs.Bytes.{number, series, stands}
-use Rattle.format.specs.Table.{registerMark, register, cells, rowMark, cellMap, row, rowMap, rows, sheet, fieldMapOf, head, note, encodeFields}
+use Rattle.ledger.specs.Ledgers.{countOf, cellOf, givenOf, receivedOf}
+use Rattle.ledger.specs.Weights.{weightOf}
+use Rattle.ledger.specs.Checks.{mayHold, totalFits, bounded, aboveFloor}
+use Rattle.ledger.specs.Tables.{run, table}
+use Rattle.ledger.proofs.Tables.{table-length}
+use Rattle.format.specs.Bytes.{bytes, number, series, marks, stands}
+use Rattle.format.specs.Table.{registerMark, register, cells, rowMark, cellMap, row, rowMap, rows, sheet, fieldMap, fieldMapOf, head, note, encodeFields}
 use Rattle.format.proofs.Lengths.{bytes-length, number-length, series-length}
 use Rattle.format.proofs.Marks.{stands-le, stands-none}
 use Rattle.message.specs.declared.header.Header.{Header}
 use Rattle.message.specs.Headers.{fieldsOf, encode, Bytes, Typed}
 use Rattle.message.specs.Answers.{check, decode}
-use Rattle.message.specs.Faults.{faultOf}
+use Rattle.message.specs.Faults.{kindFits, registerFits, faultOf}
+use Rattle.message.specs.Cursors.{within}
 use Rattle.message.proofs.Faults.{fault-is-check, taken-told}
 use Rattle.message.proofs.Registers.{fits-good}
 use Rattle.message.proofs.Rows.{own-empty}
 use Rattle.message.proofs.Sheets.{good-rows}
+use Rattle.message.proofs.SheetBacks.{table-most}
 use Rattle.message.proofs.Rounds.{encode-decode, decode-typed}
 
 -- ---- lengths
@@ -139,3 +146,63 @@ longest c msg b e =
     let same = encode-decode c msg b e in
     let taken : check c (encode c (decode c msg .header) (decode c msg .value)) ≡ 0 = ap (check c) same ∙ e in
     omega (arith, ap length same, written-short c (decode c msg .header) (decode c msg .value) (decode-typed c msg b e) taken)
+
+-- ---- a message of 1,111 bytes: 16 servers, each of which gave 1 to each other one; a request with every field, and a value of 64 bytes
+
+pub crowd : Config
+crowd = configOf 16 7
+
+exchanged : Ledger
+exchanged = record { counts = table 16 (λ i. 15); cells = table 256 (λ k. cond (eqb (k / 16) (k % 16)) 0 1) }
+
+pub fullHeader : Header
+fullHeader =
+    record { kind = 1; server = 15; desk = 1; round = 1; tag = record { stamp = 1; desk = 1 }; ledger = exchanged; note = 1 }
+
+pub fullValue : List ℕ
+fullValue = replicate 64 255
+
+full-length : length (encode crowd fullHeader fullValue) ≡ 1111
+unfolding crowd fullHeader fullValue exchanged encode encodeFields fieldMapOf fieldMap head register registerMark sheet rows row cells cellMap rowMark rowMap note
+    number series marks stands bytes sum table run stampBytes
+full-length = refl
+
+full-typed : Typed fullHeader fullValue
+unfolding fullHeader fullValue exchanged
+full-typed =
+    record {
+      kind-fits = omega arith;
+      server-fits = omega arith;
+      desk-fits = omega arith;
+      round-fits = omega arith;
+      stamp-fits = omega arith;
+      tag-desk-fits = omega arith;
+      note-fits = omega arith;
+      ledger-typed =
+          record {
+            counts-length = table-length 16 _;
+            cells-length = table-length 256 _;
+            count-fits = table-most 16 _ 65535 (λ i. omega arith);
+            cell-fits = table-most 256 _ 4294967295 (λ k. small (eqb (k / 16) (k % 16)));
+          };
+      value-bytes = record { byte = replicate-most 64 255 };
+    }
+  where
+    small : (b : Bool) → cond b 0 1 ≤ 4294967295
+    small true = omega arith
+    small false = omega arith
+
+    replicate-most : (n x k : ℕ) → getD (replicate n x) k 0 < suc x
+    replicate-most zero x k = omega arith
+    replicate-most (suc n) x zero = omega arith
+    replicate-most (suc n) x (suc k) = replicate-most n x k
+
+full-taken : faultOf crowd fullHeader 64 ≡ 0
+unfolding crowd fullHeader exchanged faultOf validOf kindFits registerFits registerMark within bounded aboveFloor all mayHold totalFits givenOf sum table run
+    aboveOf above totalOf startOf weightOf weight difference receivedOf
+full-taken = refl
+
+-- the reader takes it
+pub one-as-long : (check crowd (encode crowd fullHeader fullValue) ≡ 0) × (length (encode crowd fullHeader fullValue) ≡ 1111)
+unfolding fullValue
+one-as-long = (fault-is-check crowd fullHeader fullValue full-typed ∙ full-taken, full-length)
