@@ -3,7 +3,7 @@ use Prim.Native.Nat.{ℕ, zero, suc, _+_, _*_, _/_, _%_, _<_, _≤_}
 use native.Mathlib.Omega.{arith}
 use mathlib.Core.Path.{_≡_, refl, sym, ap, ap₂, _∙_}
 use mathlib.Core.Logic.{⊎-elim}
-use mathlib.Core.List.{List, [], _∷_, _++_}
+use mathlib.Core.List.{List, [], _∷_, _++_, append-assoc, append-nil}
 use lib.ListN.{length, length-append}
 use Rattle.quorums.specs.Sum.{sum}
 use Rattle.quorums.proofs.Sums.{below-suc}
@@ -48,6 +48,21 @@ series-le k (suc n) f h =
 -- part k of a series has room where the series has
 pub series-fits : (k n : ℕ) (f : ℕ → List ℕ) → k < n → length (series k f) + length (f k) ≤ length (series n f)
 series-fits k n f h = omega (arith, series-le (suc k) n f h, ap length (series-next k f), length-append (series k f) (f k))
+
+-- a series is what comes before part k, part k, and a rest
+pub series-split : (k n : ℕ) (f : ℕ → List ℕ) → k < n → (t : List ℕ) × (series n f ≡ series k f ++ (f k ++ t))
+series-split k zero f h = absurd (omega arith)
+series-split k (suc n) f h =
+    ⊎-elim (λ (d : k ≡ n). rw d ([], series-next n f ∙ ap (λ l. series n f ++ l) (sym (append-nil (f n)))))
+    (λ (d : k < n).
+    let r = series-split k n f d in (
+      r .0 ++ f n,
+      series-next n f
+          ∙ ap (λ l. l ++ f n) (r .1)
+          ∙ append-assoc (series k f) (f k ++ r .0) (f n)
+          ∙ ap (λ l. series k f ++ l) (append-assoc (f k) (r .0) (f n)),
+    ))
+    (below-suc h)
 
 pub series-same : (n : ℕ) (f g : ℕ → List ℕ) → ((k : ℕ) → k < n → f k ≡ g k) → series n f ≡ series n g
 unfolding series

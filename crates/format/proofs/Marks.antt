@@ -1,6 +1,6 @@
 -- Maps and their bits: a map of n bits is below 2 ^ n, has the bits that it was made of, and is made of the bits that it has.
 use Prim.Native.Nat.{ℕ, zero, suc, _+_, _-_, _*_, _/_, _%_, _^_, _<_, _≤_}
-use native.Mathlib.Nat.{one-mul, mul-assoc, add-mul-div-right, mod-eq-of-lt, pow-succ'}
+use native.Mathlib.Nat.{one-mul, mul-assoc, add-mul-div-right, mod-eq-of-lt, pow-succ', div-eq-of-lt, lt-of-lt-of-le, pow-le-pow-right}
 use native.Mathlib.Omega.{arith}
 use mathlib.Core.Path.{_≡_, refl, sym, ap, ap₂, _∙_}
 use mathlib.Core.Logic.{_⊎_, inl, inr, ⊎-elim}
@@ -13,6 +13,10 @@ pub stands-le : (x : ℕ) → stands x ≤ 1
 unfolding stands
 stands-le zero = omega arith
 stands-le (suc x) = omega arith
+
+pub stands-none : stands 0 ≡ 0
+unfolding stands
+stands-none = refl
 
 pub stands-zero : (x : ℕ) → stands x ≡ 0 → x ≡ 0
 unfolding stands
@@ -48,6 +52,11 @@ marks-none f = refl
 pub marks-same : (n : ℕ) (f g : ℕ → ℕ) → ((k : ℕ) → k < n → f k ≡ g k) → marks n f ≡ marks n g
 unfolding marks
 marks-same n f g h = sum-same n _ _ (λ k l. ap (λ x. stands x * 2 ^ k) (h k l))
+
+-- a map rests on what stands alone
+pub marks-stand : (n : ℕ) (f g : ℕ → ℕ) → ((k : ℕ) → k < n → stands (f k) ≡ stands (g k)) → marks n f ≡ marks n g
+unfolding marks
+marks-stand n f g h = sum-same n _ _ (λ k l. ap (λ x. x * 2 ^ k) (h k l))
 
 -- what the highest mark adds: nothing or 2 ^ n
 top : (x n : ℕ) → (stands x * 2 ^ n ≡ 0) ⊎ (stands x * 2 ^ n ≡ 2 ^ n)
@@ -134,3 +143,24 @@ unfolding sum
 marks-stands zero f = ap stands (marks-none f)
 marks-stands (suc n) f =
     ap stands (marks-next n f) ∙ stands-add (marks n f) (stands (f n) * 2 ^ n) (sum n f) (f n) (marks-stands n f) (stands-shifted (f n) n)
+
+-- ---- maps of n bits that have bits below a limit only
+
+pub marks-cut : (n k : ℕ) (f : ℕ → ℕ) → k ≤ n → ((i : ℕ) → k ≤ i → i < n → f i ≡ 0) → marks n f ≡ marks k f
+marks-cut zero k f l h = let e : k ≡ 0 = omega arith in rw e refl
+marks-cut (suc n) k f l h =
+    ⊎-elim (λ (d : k ≡ suc n). rw d refl)
+    (λ (d : k < suc n).
+    marks-next n f
+    ∙ ap (λ x. marks n f + stands x * 2 ^ n) (h n (omega arith) (omega arith))
+    ∙ nothing (marks n f) (2 ^ n)
+    ∙ marks-cut n k f (omega arith) (λ i a b. h i a (omega arith)))
+    (below-suc (omega arith))
+  where
+    nothing : (a p : ℕ) → a + stands 0 * p ≡ a
+    nothing a p = rw stands-none (omega arith)
+
+-- a map below 2 ^ n has no bit from n on
+pub bit-above : (m n k : ℕ) → m < 2 ^ n → n ≤ k → bit m k ≡ 0
+unfolding bit
+bit-above m n k h l = rw (div-eq-of-lt (lt-of-lt-of-le h (pow-le-pow-right (omega arith) l))) (omega arith)

@@ -26,7 +26,7 @@ use Rattle.ledger.proofs.Totals.{bounded-told, told-bounded, total-fits
 use Rattle.ledger.proofs.Changes.{lawful-told}
 
 -- a cell between two servers may hold anything
-may-hold-placed : (n k x : ℕ) → k / 16 < n → k % 16 < n → (k / 16 ≡ k % 16 → ⊥) → mayHold n k x ≡ true
+pub may-hold-placed : (n k x : ℕ) → k / 16 < n → k % 16 < n → (k / 16 ≡ k % 16 → ⊥) → mayHold n k x ≡ true
 unfolding mayHold
 may-hold-placed n k x p q ne = rw (lt-ltb _ _ p, lt-ltb _ _ q, ne-eqb _ _ ne) (either (eqb x 0))
   where

@@ -26,7 +26,7 @@ pub record Placed (n i j : ℕ) : Type 0 where
   pub taker : j < n
   pub apart : i ≡ j → ⊥
 
-may-hold-told : (n k x : ℕ) → mayHold n k x ≡ true → (x ≡ 0) ⊎ Placed n (k / 16) (k % 16)
+pub may-hold-told : (n k x : ℕ) → mayHold n k x ≡ true → (x ≡ 0) ⊎ Placed n (k / 16) (k % 16)
 unfolding mayHold
 may-hold-told n k x e = by-test (eqb x 0) refl e
   where

@@ -9,7 +9,7 @@ use Rattle.config.specs.declared.cluster.Config.{Config}
 use Rattle.ledger.specs.declared.ledger.Ledger.{Ledger}
 use Rattle.message.specs.declared.state.Cursor.{Cursor}
 use Rattle.message.specs.Cursors.{readNumber, skip, require}
-use Rattle.message.specs.Scans.{cellsAfter, cellMapOf, readCount, rowOf, rowsAfter, sheetOf, readNote, endOf}
+use Rattle.message.specs.Scans.{cellsAfter, cellMapOf, readCount, rowOf, rowsAfter, registerOf, sheetOf, readNote, endOf}
 
 -- a step that goes on only from 0, and else keeps the number n
 sticks : (n : ℕ) (on kept : Cursor) → kept .number ≡ n → cond (eqb n 0) on kept .number ≡ 0 → n ≡ 0
@@ -46,6 +46,11 @@ pub rows-open : (c : Config) (msg : List ℕ) (m : ℕ) (from : Cursor) (i : ℕ
 unfolding rowsAfter
 rows-open c msg m from zero e = e
 rows-open c msg m from (suc i) e = rows-open c msg m from i (row-open c msg i _ _ e)
+
+pub register-open : (c : Config) (msg : List ℕ) (s : ℕ) (from : Cursor) → registerOf c msg s from .cursor .number ≡ 0 → from .number ≡ 0
+unfolding registerOf
+register-open c msg s from e =
+    readNumber-open msg _ _ _ _ from (readNumber-open msg _ _ _ _ _ (readNumber-open msg _ _ _ _ _ (skip-open msg _ _ e)))
 
 pub sheet-open : (c : Config) (msg : List ℕ) (s : ℕ) (from : Cursor) → sheetOf c msg s from .cursor .number ≡ 0 → from .number ≡ 0
 unfolding sheetOf

@@ -19,14 +19,14 @@ unfoldable pub registerFits : ℕ → ℕ → ℕ → Bool
 registerFits stamp desk length =
     cond (eqb (registerMark stamp desk length) 0) true (cond (eqb stamp 0) false (cond (eqb desk 0) false (leb length 64)))
 
+-- the number k where a test fails, else what the tests after it give
+abbrev pub test : Bool → ℕ → ℕ → ℕ
+test ok k rest = cond ok rest k
+
 unfoldable pub faultOf : Config → Header → ℕ → ℕ
 faultOf c h length =
-    cond (validOf c)
-    (cond (within 1 3 (h .kind))
-    (cond (kindFits (h .kind) (h .desk) (h .round) (h .note))
-    (cond (ltb (h .server) (c .n))
-    (cond (registerFits (h .tag .stamp) (h .tag .desk) length) (cond (bounded c (h .ledger)) (cond (aboveFloor c (h .ledger)) 0 5) 4) 4)
-    4)
-    3)
-    4)
-    1
+    test (validOf c) 1
+    (test (within 1 3 (h .kind)) 4
+    (test (kindFits (h .kind) (h .desk) (h .round) (h .note)) 3
+    (test (ltb (h .server) (c .n)) 4
+    (test (registerFits (h .tag .stamp) (h .tag .desk) length) 4 (test (bounded c (h .ledger)) 4 (test (aboveFloor c (h .ledger)) 5 0))))))

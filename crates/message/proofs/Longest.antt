@@ -1,0 +1,208 @@
+-- No message that the reader takes is longer than 1,111 bytes, and one is as long.
+use Prim.Native.Nat.{ℕ, zero, suc, _+_, _*_, _/_, _%_, _<_, _≤_, min}
+use native.Mathlib.Omega.{arith}
+use mathlib.Core.Path.{_≡_, refl, sym, ap, _∙_}
+use mathlib.Core.Logic.{⊎-elim}
+use mathlib.Core.Bool.{Bool, true, false, cond}
+use mathlib.Core.List.{List, _++_}
+use lib.Dec.{eqb}
+use lib.ListN.{length, length-append, getD, replicate}
+use Rattle.quorums.specs.Sum.{sum, all}
+use Rattle.quorums.specs.Difference.{difference}
+use Rattle.quorums.specs.Accounts.{weight, above}
+use Rattle.quorums.proofs.Sums.{sum-same, sum-le, sum-const, below-suc}
+use Rattle.config.specs.Cluster.{configOf, validOf, startOf, totalOf, aboveOf, stampBytes}
+use Rattle.config.specs.declared.cluster.Config.{Config}
+use Rattle.ledger.specs.declared.ledger.Ledger.{Ledger}
+use Rattle.ledger.specs.Ledgers.{countOf, cellOf, givenOf, receivedOf}
+use Rattle.ledger.specs.Weights.{weightOf}
+use Rattle.ledger.specs.Checks.{mayHold, totalFits, bounded, aboveFloor}
+use Rattle.ledger.specs.Tables.{run, table}
+use Rattle.ledger.proofs.Tables.{table-length}
+use Rattle.format.specs.Bytes.{bytes, number, series, marks, stands}
+use Rattle.format.specs.Table.{registerMark, register, cells, rowMark, cellMap, row, rowMap, rows, sheet, fieldMap, fieldMapOf, head, note, encodeFields}
+use Rattle.format.proofs.Lengths.{bytes-length, number-length, series-length}
+use Rattle.format.proofs.Marks.{stands-le, stands-none}
+use Rattle.message.specs.declared.header.Header.{Header}
+use Rattle.message.specs.Headers.{fieldsOf, encode, Bytes, Typed}
+use Rattle.message.specs.Answers.{check, decode}
+use Rattle.message.specs.Faults.{kindFits, registerFits, faultOf}
+use Rattle.message.specs.Cursors.{within}
+use Rattle.message.proofs.Faults.{fault-is-check, taken-told}
+use Rattle.message.proofs.Registers.{fits-good}
+use Rattle.message.proofs.Rows.{own-empty}
+use Rattle.message.proofs.Sheets.{good-rows}
+use Rattle.message.proofs.SheetBacks.{table-most}
+use Rattle.message.proofs.Rounds.{encode-decode, decode-typed}
+
+-- ---- lengths
+
+short-number : (s w x : ℕ) → length (number s w x) ≤ w
+unfolding number
+short-number zero w x = omega arith
+short-number (suc s) w x = omega (arith, bytes-length w x)
+
+sum-times : (n : ℕ) (f : ℕ → ℕ) → sum n (λ j. f j * 4) ≡ sum n f * 4
+unfolding sum
+sum-times zero f = refl
+sum-times (suc n) f = omega (arith, sum-times n f)
+
+-- n marks, one of them 0
+marks-room : (n : ℕ) (f : ℕ → ℕ) (i : ℕ) → i < n → f i ≡ 0 → sum n (λ j. stands (f j)) + 1 ≤ n
+unfolding sum
+marks-room zero f i l e = absurd (omega arith)
+marks-room (suc n) f i l e =
+    ⊎-elim
+    (λ (d : i ≡ n).
+    let z : stands (f n) ≡ 0 = ap (λ k. stands (f k)) (sym d) ∙ ap stands e ∙ stands-none in
+    omega (arith, z, sum-le n (λ j. stands (f j)) (λ j. 1) (λ j k. stands-le (f j)), sum-const n 1))
+    (λ (d : i < n). omega (arith, marks-room n f i d e, stands-le (f n)))
+    (below-suc l)
+
+-- a row without an own cell
+row-short : (count i : ℕ) (cell : ℕ → ℕ) → i < 16 → cell i ≡ 0 → length (row count cell) ≤ 64
+unfolding row cells
+row-short count i cell l e =
+    let each : length (series 16 (λ j. number (cell j) 4 (cell j))) ≡ sum 16 (λ j. stands (cell j) * 4) =
+    series-length 16 _ ∙ sum-same 16 _ _ (λ j k. number-length (cell j) 4 (cell j)) in
+    let four : sum 16 (λ j. stands (cell j) * 4) ≡ sum 16 (λ j. stands (cell j)) * 4 = sum-times 16 (λ j. stands (cell j)) in
+    omega (
+      arith,
+      each,
+      four,
+      marks-room 16 cell i l e,
+      length-append (number (rowMark count cell) 2 count ++ number (rowMark count cell) 2 (cellMap cell)) (series 16 (λ j. number (cell j) 4 (cell j))),
+      length-append (number (rowMark count cell) 2 count) (number (rowMark count cell) 2 (cellMap cell)),
+      short-number (rowMark count cell) 2 count,
+      short-number (rowMark count cell) 2 (cellMap cell),
+    )
+
+sheet-short : (c : Config) (l : Ledger) → bounded c l ≡ true → length (sheet (countOf l) (cellOf l)) ≤ 1026
+unfolding sheet rows
+sheet-short c l b =
+    omega (
+      arith,
+      length-append (number (rowMap (countOf l) (cellOf l)) 2 (rowMap (countOf l) (cellOf l))) (series 16 (λ i. row (countOf l i) (cellOf l i))),
+      short-number (rowMap (countOf l) (cellOf l)) 2 (rowMap (countOf l) (cellOf l)),
+      series-length 16 (λ i. row (countOf l i) (cellOf l i)),
+      sum-le 16 (λ i. length (row (countOf l i) (cellOf l i))) (λ i. 64)
+          (λ i h. row-short (countOf l i) i (cellOf l i) h (own-empty (c .n) i (countOf l i) (cellOf l i) h (good-rows c l b i h))),
+      sum-const 16 64,
+    )
+
+register-short : (c : Config) (stamp desk : ℕ) (v : List ℕ) → length v ≤ 64 → length (register c stamp desk v) ≤ 71
+unfolding register stampBytes
+register-short c stamp desk v l =
+    let s : ℕ = registerMark stamp desk (length v) in
+    omega (
+      arith,
+      length-append (number s 4 stamp ++ number s 2 desk ++ number s 1 (min (length v) 255)) v,
+      length-append (number s 4 stamp ++ number s 2 desk) (number s 1 (min (length v) 255)),
+      length-append (number s 4 stamp) (number s 2 desk),
+      short-number s 4 stamp,
+      short-number s 2 desk,
+      short-number s 1 (min (length v) 255),
+    )
+
+head-short : (map kind server desk round : ℕ) → length (head map kind server desk round) ≤ 10
+unfolding head
+head-short map kind server desk round =
+    omega (
+      arith,
+      length-append (number 1 2 map ++ number 1 1 kind ++ number 1 1 server ++ number desk 2 desk) (number round 4 round),
+      length-append (number 1 2 map ++ number 1 1 kind ++ number 1 1 server) (number desk 2 desk),
+      length-append (number 1 2 map ++ number 1 1 kind) (number 1 1 server),
+      length-append (number 1 2 map) (number 1 1 kind),
+      short-number 1 2 map,
+      short-number 1 1 kind,
+      short-number 1 1 server,
+      short-number desk 2 desk,
+      short-number round 4 round,
+    )
+
+-- what the writer takes has at most 1,111 bytes
+pub written-short : (c : Config) (h : Header) (v : List ℕ) → Typed h v → check c (encode c h v) ≡ 0 → length (encode c h v) ≤ 1111
+unfolding encode encodeFields note
+written-short c h v ty e =
+    let t = taken-told c h v ty e in
+    let x = fieldsOf h v in
+    let a : List ℕ = head (fieldMapOf x) (h .kind) (h .server) (h .desk) (h .round) in
+    let r : List ℕ = register c (h .tag .stamp) (h .tag .desk) v in
+    let s : List ℕ = sheet (countOf (h .ledger)) (cellOf (h .ledger)) in
+    omega (
+      arith,
+      length-append (a ++ r ++ s) (number (h .note) 4 (h .note)),
+      length-append (a ++ r) s,
+      length-append a r,
+      head-short (fieldMapOf x) (h .kind) (h .server) (h .desk) (h .round),
+      register-short c (h .tag .stamp) (h .tag .desk) v (fits-good _ _ _ (t .0) .short),
+      sheet-short c (h .ledger) (t .1),
+      short-number (h .note) 4 (h .note),
+    )
+
+-- and so has what the reader takes
+pub longest : (c : Config) (msg : List ℕ) → Bytes msg → check c msg ≡ 0 → length msg ≤ 1111
+longest c msg b e =
+    let same = encode-decode c msg b e in
+    let taken : check c (encode c (decode c msg .header) (decode c msg .value)) ≡ 0 = ap (check c) same ∙ e in
+    omega (arith, ap length same, written-short c (decode c msg .header) (decode c msg .value) (decode-typed c msg b e) taken)
+
+-- ---- a message of 1,111 bytes: 16 servers, each of which gave 1 to each other one; a request with every field, and a value of 64 bytes
+
+pub crowd : Config
+crowd = configOf 16 7
+
+exchanged : Ledger
+exchanged = record { counts = table 16 (λ i. 15); cells = table 256 (λ k. cond (eqb (k / 16) (k % 16)) 0 1) }
+
+pub fullHeader : Header
+fullHeader =
+    record { kind = 1; server = 15; desk = 1; round = 1; tag = record { stamp = 1; desk = 1 }; ledger = exchanged; note = 1 }
+
+pub fullValue : List ℕ
+fullValue = replicate 64 255
+
+full-length : length (encode crowd fullHeader fullValue) ≡ 1111
+unfolding crowd fullHeader fullValue exchanged encode encodeFields fieldMapOf fieldMap head register registerMark sheet rows row cells cellMap rowMark rowMap note
+    number series marks stands bytes sum table run stampBytes
+full-length = refl
+
+full-typed : Typed fullHeader fullValue
+unfolding fullHeader fullValue exchanged
+full-typed =
+    record {
+      kind-fits = omega arith;
+      server-fits = omega arith;
+      desk-fits = omega arith;
+      round-fits = omega arith;
+      stamp-fits = omega arith;
+      tag-desk-fits = omega arith;
+      note-fits = omega arith;
+      ledger-typed =
+          record {
+            counts-length = table-length 16 _;
+            cells-length = table-length 256 _;
+            count-fits = table-most 16 _ 65535 (λ i. omega arith);
+            cell-fits = table-most 256 _ 4294967295 (λ k. small (eqb (k / 16) (k % 16)));
+          };
+      value-bytes = record { byte = replicate-most 64 255 };
+    }
+  where
+    small : (b : Bool) → cond b 0 1 ≤ 4294967295
+    small true = omega arith
+    small false = omega arith
+
+    replicate-most : (n x k : ℕ) → getD (replicate n x) k 0 < suc x
+    replicate-most zero x k = omega arith
+    replicate-most (suc n) x zero = omega arith
+    replicate-most (suc n) x (suc k) = replicate-most n x k
+
+full-taken : faultOf crowd fullHeader 64 ≡ 0
+unfolding crowd fullHeader exchanged faultOf validOf kindFits registerFits registerMark within bounded aboveFloor all mayHold totalFits givenOf sum table run
+    aboveOf above totalOf startOf weightOf weight difference receivedOf
+full-taken = refl
+
+-- the reader takes it
+pub one-as-long : (check crowd (encode crowd fullHeader fullValue) ≡ 0) × (length (encode crowd fullHeader fullValue) ≡ 1111)
+unfolding fullValue
+one-as-long = (fault-is-check crowd fullHeader fullValue full-typed ∙ full-taken, full-length)
