@@ -7,3 +7,4 @@ pub mod Ranges
 pub mod Rows
 pub mod Registers
 pub mod Messages
+pub mod Writes

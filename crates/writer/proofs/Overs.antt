@@ -6,7 +6,7 @@ use native.Mathlib.Omega.{arith}
 use mathlib.Core.Path.{_≡_, refl, sym, ap, _∙_}
 use mathlib.Core.List.{List, [], _∷_, _++_, append-assoc, append-nil}
 use lib.ListN.{length, getD, take, drop, set, length-append, length-drop, length-set, length-take, drop-of-length-le}
-use lib.Seq.{take-all, drop-cons, take-append-seam, drop-append-seam, drop-drop, getD-set-same, drop-set-lt, set-append-seam}
+use lib.Seq.{length-take-le, take-all, drop-cons, take-append-seam, drop-append-seam, drop-drop, getD-set-same, drop-set-lt, set-append-seam}
 use Rattle.format.specs.Bytes.{series}
 use Rattle.format.proofs.Lengths.{series-next, series-fits}
 use Rattle.message.specs.Answers.{over}
@@ -48,6 +48,9 @@ lent p xs = take (length xs - p) (drop p xs)
 
 abbrev pub back : ℕ → List ℕ → List ℕ → List ℕ
 back p xs ys = take p xs ++ (ys ++ drop (length xs - p) (drop p xs))
+
+pub lent-length : (p : ℕ) (xs : List ℕ) → length (lent p xs) ≡ length xs - p
+lent-length p xs = length-take-le (length xs - p) (drop p xs) (rw length-drop (le-refl (length xs - p)))
 
 -- so far e is written over the entry's buffer, and p is the place after it
 pub record Written (e entry out : List ℕ) (p : ℕ) : Type 0 where
