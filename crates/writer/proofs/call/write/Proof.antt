@@ -83,7 +83,7 @@ returns-2 : tie.Need-returns-2
 returns-2 c = write-narrow _ _ _ _ _ (taken (c .before .before .before .before)) (omega (arith, c .if2 .taken))
 
 sub-if3 : tie.Need-sub-if3
-sub-if3 c = search needs
+sub-if3 c = omega (arith, c .if2 .left)
 
 returns-3 : tie.Need-returns-3
 returns-3 c = write-narrow _ _ _ _ _ (taken (c .before .before .before .before .before .before)) (omega (arith, c .if3 .taken, c .before .before .if2 .left, size-is (c .before .before .before)))
