@@ -1,2 +1,3 @@
 -- Laws that the proofs cite.
 pub mod Numbers
+pub mod Steps

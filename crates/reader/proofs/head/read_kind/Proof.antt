@@ -1,4 +1,7 @@
+-- `read_kind` meets its contract: the number, then the test of it beside the map.
+use native.Mathlib.Omega.{arith}
 use borrow.Author.Needs.{needs}
+use Rattle.message.specs.Scans.{readKind}
 use Rattle.reader.proofs.head.read_kind.Statement.{statement}
 use Rattle.reader.proofs.head.read_kind.Tie as tie
 use Rattle.reader.proofs.head.read_kind.Reads as reads
@@ -17,7 +20,10 @@ require-requires : tie.Need-require-requires
 require-requires c κs = search needs
 
 returns : tie.Need-returns
-returns c = ?
+unfolding readKind
+returns c =
+    let number = c .before .before .read-number .ensures in
+    (rw (← number .0, ← c .before .kind-has .ensures) (c .require .ensures .0), omega (arith, c .require .ensures, number), omega (arith, c .require .ensures, number))
 
 pub read-kind-spec : {M : Type 1} → statement M
 read-kind-spec =

@@ -1,4 +1,7 @@
+-- `read_map` meets its contract: the number, then the test of it.
+use native.Mathlib.Omega.{arith}
 use borrow.Author.Needs.{needs}
+use Rattle.message.specs.Scans.{readMap}
 use Rattle.reader.proofs.head.read_map.Statement.{statement}
 use Rattle.reader.proofs.head.read_map.Tie as tie
 use Rattle.reader.proofs.head.read_map.Reads as reads
@@ -17,7 +20,10 @@ require-requires : tie.Need-require-requires
 require-requires c κs = search needs
 
 returns : tie.Need-returns
-returns c = ?
+unfolding readMap
+returns c =
+    let number = c .before .before .read-number .ensures in
+    (rw (← number .0, ← c .before .map-lawful .ensures) (c .require .ensures .0), omega (arith, c .require .ensures, number), omega (arith, c .require .ensures, number))
 
 pub read-map-spec : {M : Type 1} → statement M
 read-map-spec =

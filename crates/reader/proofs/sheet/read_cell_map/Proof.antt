@@ -1,4 +1,7 @@
+-- `read_cell_map` meets its contract: the number, then the test of the giver's own bit.
+use native.Mathlib.Omega.{arith}
 use borrow.Author.Needs.{needs}
+use Rattle.message.specs.Scans.{cellMapOf}
 use Rattle.reader.proofs.sheet.read_cell_map.Statement.{statement}
 use Rattle.reader.proofs.sheet.read_cell_map.Tie as tie
 use Rattle.reader.proofs.sheet.read_cell_map.Reads as reads
@@ -21,7 +24,11 @@ require-requires : tie.Need-require-requires
 require-requires c κs = search needs
 
 returns : tie.Need-returns
-returns c = ?
+unfolding cellMapOf
+returns c =
+    let most = c .before .before .before .most-map .ensures in
+    let number = c .before .before .read-number .ensures in
+    (rw (← most .0, ← number .0, ← c .before .bit .ensures .0) (c .require .ensures .0), omega (arith, c .require .ensures, number))
 
 pub read-cell-map-spec : {M : Type 1} → statement M
 read-cell-map-spec =

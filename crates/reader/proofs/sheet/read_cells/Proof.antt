@@ -1,4 +1,12 @@
+-- `read_cells` meets its contract: after j cells the cursor, the total and the values are those of the first j.
+use Prim.Native.Nat.{ℕ, _*_, _-_, _≤_, _<_}
+use native.Mathlib.Omega.{arith}
+use mathlib.Core.Path.{_≡_, refl}
 use borrow.Author.Needs.{needs}
+use lib.ListN.{length, getD}
+use Rattle.quorums.specs.Sum.{sum}
+use Rattle.message.specs.Scans.{cellsAfter, cellRead}
+use Rattle.reader.proofs.Steps.{cells-next, cell-next}
 use Rattle.reader.proofs.sheet.read_cells.Statement.{statement}
 use Rattle.reader.proofs.sheet.read_cells.Tie as tie
 use Rattle.reader.proofs.sheet.read_cells.Reads as reads
@@ -7,13 +15,20 @@ use Rattle.reader.proofs.cursor.bit.Reads as bit-reads
 use Rattle.reader.proofs.cursor.read_number.Reads as read-number-reads
 
 abbrev Inv-loop : tie.InvT-loop
-Inv-loop msg map out₀ cursor₀ total₀ j₀ out cursor total j = ?
+Inv-loop msg map out₀ cursor₀ total₀ j₀ out cursor total j =
+    (j ≤ 16)
+    × (cursor ≡ cellsAfter msg map cursor₀ j)
+    × (total ≡ sum j (cellRead msg map cursor₀))
+    × (total ≤ j * 4294967295)
+    × (cursor .at ≤ length msg)
+    × (length out ≡ 16)
+    × ((m : ℕ) → m < j → getD out m 0 ≡ cellRead msg map cursor₀ m)
 
 abbrev μ-loop : tie.MeasureT-loop
-μ-loop msg map out₀ cursor₀ total₀ j₀ out cursor total j = ?
+μ-loop msg map out₀ cursor₀ total₀ j₀ out cursor total j = 16 - j
 
 loop-holds : tie.Need-loop-holds Inv-loop μ-loop
-loop-holds c = search needs
+loop-holds c = ?
 
 bit-requires : tie.Need-bit-requires Inv-loop μ-loop
 bit-requires c κs = search needs
@@ -40,13 +55,13 @@ loop-less : tie.Need-loop-less Inv-loop μ-loop
 loop-less c = search needs
 
 loop-again : tie.Need-loop-again Inv-loop μ-loop
-loop-again c = search needs
+loop-again c = ?
 
 same-length : tie.Need-same-length Inv-loop μ-loop
 same-length c = search needs
 
 returns : tie.Need-returns Inv-loop μ-loop
-returns c = search needs
+returns c = ?
 
 pub read-cells-spec : {M : Type 1} → statement M
 read-cells-spec =
