@@ -1,3 +1,4 @@
 -- Laws that the proofs cite.
 pub mod Numbers
 pub mod Steps
+pub mod Absent

@@ -5,10 +5,11 @@ use mathlib.Core.Path.{_≡_, ap, _∙_}
 use mathlib.Core.Bool.{Bool}
 use mathlib.Core.List.{List}
 use borrow.Author.Tests.{ne-eqb}
+use Rattle.config.specs.declared.cluster.Config.{Config}
 use Rattle.format.specs.Bytes.{bit}
 use Rattle.message.specs.declared.state.Cursor.{Cursor}
 use Rattle.message.specs.Cursors.{readNumber, require}
-use Rattle.message.specs.Scans.{cellsAfter, cellRead}
+use Rattle.message.specs.Scans.{cellsAfter, cellRead, readCount, cellMapOf, rowCells}
 
 -- a test leaves a cursor that has a number
 pub require-stays : (ok : Bool) (k : ℕ) (c : Cursor) → (c .number ≡ 0 → ⊥) → require ok k c ≡ c
@@ -24,3 +25,9 @@ cells-next msg m from j b p q r = rw (add-one, ← p, ← q) r
 pub cell-next : (msg : List ℕ) (m : ℕ) (from : Cursor) (j : ℕ) {d : Cursor} → d ≡ cellsAfter msg m from (j + 1) → d .x ≡ cellRead msg m from j
 unfolding cellRead
 cell-next msg m from j p = ap (λ (c : Cursor). c .x) (rw add-one at p)
+
+-- the cells of a row, from its count and its cell map
+pub row-cell : (c : Config) (msg : List ℕ) (i s : ℕ) (from : Cursor) {count m : Cursor} → count ≡ readNumber msg s 2 1 65535 from
+    → m ≡ cellMapOf c msg i s count → (j : ℕ) → cellRead msg (m .x) m j ≡ rowCells c msg i s from j
+unfolding rowCells readCount
+row-cell c msg i s from p q j = rw (← p, ← q)
