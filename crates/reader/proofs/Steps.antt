@@ -1,15 +1,18 @@
 -- The reader's steps as the loops and calls take them: one more turn of a definition, from what the calls of that turn gave.
-use Prim.Native.Nat.{ℕ, _+_}
+use Prim.Native.Nat.{ℕ, _+_, _/_, _%_}
 use native.Mathlib.Numerals.{add-one}
-use mathlib.Core.Path.{_≡_, ap, _∙_}
+use mathlib.Core.Path.{_≡_, ap, ap₂, _∙_}
 use mathlib.Core.Bool.{Bool}
 use mathlib.Core.List.{List}
 use borrow.Author.Tests.{ne-eqb}
 use Rattle.config.specs.declared.cluster.Config.{Config}
+use Rattle.ledger.specs.declared.ledger.Ledger.{Ledger}
+use Rattle.ledger.specs.Tables.{table}
 use Rattle.format.specs.Bytes.{bit}
 use Rattle.message.specs.declared.state.Cursor.{Cursor}
+use Rattle.message.specs.declared.state.RowRead.{RowRead}
 use Rattle.message.specs.Cursors.{readNumber, require}
-use Rattle.message.specs.Scans.{cellsAfter, cellRead, readCount, cellMapOf, rowCells}
+use Rattle.message.specs.Scans.{cellsAfter, cellRead, readCount, cellMapOf, rowCells, rowOf, rowsAfter, countRead, cellOfRow, ledgerRead}
 
 -- a test leaves a cursor that has a number
 pub require-stays : (ok : Bool) (k : ℕ) (c : Cursor) → (c .number ≡ 0 → ⊥) → require ok k c ≡ c
@@ -31,3 +34,22 @@ pub row-cell : (c : Config) (msg : List ℕ) (i s : ℕ) (from : Cursor) {count 
     → m ≡ cellMapOf c msg i s count → (j : ℕ) → cellRead msg (m .x) m j ≡ rowCells c msg i s from j
 unfolding rowCells readCount
 row-cell c msg i s from p q j = rw (← p, ← q)
+
+-- one row more: the cursor, the count and the cells, from the cursor before it and its bit
+module _ (c : Config) (msg : List ℕ) (m : ℕ) (from : Cursor) (i b : ℕ) (at : Cursor) (here : at ≡ rowsAfter c msg m from i) (stands : b ≡ bit m i) where
+  pub rows-next : {r : RowRead} → r ≡ rowOf c msg i b at → r .cursor ≡ rowsAfter c msg m from (i + 1)
+  unfolding rowsAfter
+  rows-next p = rw add-one (ap (λ (r : RowRead). r .cursor) p ∙ ap₂ (λ (s : ℕ) (d : Cursor). rowOf c msg i s d .cursor) stands here)
+
+  pub count-next : {r : RowRead} → r ≡ rowOf c msg i b at → r .count ≡ countRead c msg m from i
+  unfolding countRead
+  count-next p = ap (λ (r : RowRead). r .count) p ∙ ap₂ (λ (s : ℕ) (d : Cursor). rowOf c msg i s d .count) stands here
+
+  pub row-is : {l : List ℕ} → l ≡ table 16 (rowCells c msg i b at) → l ≡ table 16 (cellOfRow c msg m from i)
+  unfolding cellOfRow
+  row-is p = rw (← here, ← stands) p
+
+pub ledger-is : (c : Config) (msg : List ℕ) (m : ℕ) (from : Cursor) {counts cells : List ℕ} → counts ≡ table 16 (countRead c msg m from)
+    → cells ≡ table 256 (λ k. cellOfRow c msg m from (k / 16) (k % 16)) → record { counts = counts; cells = cells } ≡ ledgerRead c msg m from
+unfolding ledgerRead
+ledger-is c msg m from p q = rw (p, q)
