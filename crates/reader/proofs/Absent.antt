@@ -68,13 +68,14 @@ fits-absent = refl
 pub row-absent : (c : Config) (msg : List ℕ) (i : ℕ) (from : Cursor) → rowOf c msg i 0 from ≡ record { count = 0; cursor = stay (from .number) from }
 unfolding rowOf
 row-absent c msg i from =
-    rw
-    (map-absent c msg i from,
-    count-absent msg from,
-    sum-zero 16 (cellRead msg 0 (still from)) (λ j l. cell-absent msg from j),
-    fits-absent,
-    cells-absent msg from 16,
-    passed 4 (still from))
+    rw (
+      map-absent c msg i from,
+      count-absent msg from,
+      sum-zero 16 (cellRead msg 0 (still from)) (λ j l. cell-absent msg from j),
+      fits-absent,
+      cells-absent msg from 16,
+      passed 4 (still from),
+    )
 
 row-cell-absent : (c : Config) (msg : List ℕ) (i : ℕ) (from : Cursor) (j : ℕ) → rowCells c msg i 0 from j ≡ 0
 unfolding rowCells

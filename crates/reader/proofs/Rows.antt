@@ -79,8 +79,10 @@ row-more f xs i l h =
   where
     fits : i * 16 + 16 ≤ length xs
     fits = omega (arith, h .size)
+
     filled : length (table 16 (f i)) ≡ 16
     filled = table-length 16 (f i)
+
     inside : (r : ℕ) → r < 16 → getD (spliced xs (i * 16) 16 (table 16 (f i))) (i * 16 + r) 0 ≡ f ((i * 16 + r) / 16) ((i * 16 + r) % 16)
     inside r b =
         let row : i ≡ (i * 16 + r) / 16 = omega arith in

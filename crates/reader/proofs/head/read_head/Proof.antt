@@ -46,8 +46,7 @@ returns c =
     let desk = c .before .before .read-number2 .ensures in
     let round-stands = c .before .bit2 .ensures .0 in
     let round = c .read-number3 .ensures in
-    let bounds = valid-bounds _ (c .before .before .before .before .before .before .before .before .before .pre) in
-    (
+    let bounds = valid-bounds _ (c .before .before .before .before .before .before .before .before .before .pre) in (
       rw (← map .0, ← kind .0, ← server .0, ← desk-stands, ← desk .0, ← round-stands, ← round .0),
       round .1,
       omega (arith, kind .2),

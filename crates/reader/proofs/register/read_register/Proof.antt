@@ -38,8 +38,7 @@ returns c =
     let stamp = c .before .before .before .read-number .ensures in
     let desk = c .before .before .read-number2 .ensures in
     let length = c .before .read-number3 .ensures in
-    let value = c .skip .ensures in
-    (
+    let value = c .skip .ensures in (
       rw (← width, ← most, ← stamp .0, ← desk .0, ← length .0, ← value .0),
       value .1,
       omega (arith, stamp .2, most, stamp-room (c .before .before .before .before .before .before .before .args .config)),

@@ -64,8 +64,7 @@ loop-again c =
     let b = c .before .before .before .bit .ensures .0 in
     let r = c .before .before .read-number in
     let next : r .result ≡ cellsAfter (a .msg .now) (a .map) (a .cursor) (l .j + 1) = cells-next _ _ _ (l .j) _ (l .inv .1) b (r .ensures .0) in
-    let cell : r .result .x ≡ cellRead (a .msg .now) (a .map) (a .cursor) (l .j) = cell-next _ _ _ _ next in
-    (
+    let cell : r .result .x ≡ cellRead (a .msg .now) (a .map) (a .cursor) (l .j) = cell-next _ _ _ _ next in (
       omega arith,
       next,
       omega (arith, l .inv .2, sum-next (l .j) (cellRead (a .msg .now) (a .map) (a .cursor)), cell),

@@ -24,8 +24,7 @@ stay-requires c κs = search needs
 returns : tie.Need-returns
 returns c =
     let s = c .before .before .before .before in
-    let none : s .args .stands ≡ 0 = c .before .if1 .taken in
-    (
+    let none : s .args .stands ≡ 0 = c .before .if1 .taken in (
       rw (c .stay .ensures, none) (sym (row-absent _ _ _ _)),
       rw none (s .pre .3 ∙ row-cells-absent _ _ _ _),
       rw (c .stay .ensures) (s .pre .2),
@@ -57,8 +56,7 @@ returns-2 c =
     let map = c .before .before .before .before .before .before .before .read-cell-map .ensures in
     let cells = c .before .before .before .before .before .read-cells .ensures in
     let fits = c .before .total-fits .ensures in
-    let end = c .require .ensures in
-    (
+    let end = c .require .ensures in (
       rw (← count .0, ← map .0, ← cells .1, ← fits, ← cells .0, ← end .0),
       cells .2 ∙ table-same 16 _ _ (λ j l. row-cell _ _ _ _ _ (count .0) (map .0) j),
       omega (arith, end .1, cells .3),

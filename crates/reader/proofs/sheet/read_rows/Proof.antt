@@ -81,8 +81,7 @@ loop-again c =
     let b = c .before .before .before .before .before .bit .ensures .0 in
     let row = c .before .before .before .read-row .ensures in
     let count = count-next (a .config) (a .msg .now) (a .map .x) (a .map) (l .i) _ (l .cursor) (l .inv .1) b (row .0) in
-    let cells = row-is (a .config) (a .msg .now) (a .map .x) (a .map) (l .i) _ (l .cursor) (l .inv .1) b (row .1) in
-    (
+    let cells = row-is (a .config) (a .msg .now) (a .map .x) (a .map) (l .i) _ (l .cursor) (l .inv .1) b (row .1) in (
       omega arith,
       rows-next (a .config) (a .msg .now) (a .map .x) (a .map) (l .i) _ (l .cursor) (l .inv .1) b (row .0),
       row .2,
