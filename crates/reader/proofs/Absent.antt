@@ -1,14 +1,12 @@
 -- A row that doesn't stand: nothing is read, so its count and cells are 0 and the cursor stays.
 use Prim.Native.Nat.{ℕ, zero, suc, _^_}
 use native.Mathlib.Nat.{zero-div}
-use native.Mathlib.Omega.{arith}
 use mathlib.Core.Path.{_≡_, refl, sym, ap, _∙_}
 use mathlib.Core.Bool.{Bool, true, false, cond}
 use mathlib.Core.List.{List}
 use borrow.Author.Tests.{eqb-true}
 use lib.Dec.{eqb}
 use lib.ListN.{replicate, getD-replicate}
-use Rattle.quorums.specs.Sum.{sum}
 use Rattle.quorums.proofs.Sums.{sum-zero}
 use Rattle.config.specs.declared.cluster.Config.{Config}
 use Rattle.ledger.specs.Checks.{totalFits}
@@ -16,7 +14,6 @@ use Rattle.ledger.specs.Tables.{table}
 use Rattle.ledger.proofs.Tables.{is-table}
 use Rattle.format.specs.Bytes.{bit}
 use Rattle.message.specs.declared.state.Cursor.{Cursor}
-use Rattle.message.specs.declared.state.RowRead.{RowRead}
 use Rattle.message.specs.Cursors.{stay, readNumber, require}
 use Rattle.message.specs.Scans.{cellsAfter, cellRead, readCount, cellMapOf, rowCells, rowOf}
 

@@ -6,7 +6,6 @@ use mathlib.Core.Bool.{Bool}
 use mathlib.Core.List.{List}
 use borrow.Author.Tests.{ne-eqb}
 use Rattle.config.specs.declared.cluster.Config.{Config}
-use Rattle.ledger.specs.declared.ledger.Ledger.{Ledger}
 use Rattle.ledger.specs.Tables.{table}
 use Rattle.format.specs.Bytes.{bit}
 use Rattle.message.specs.declared.state.Cursor.{Cursor}

@@ -8,8 +8,6 @@ use Rattle.reader.proofs.Numbers.{number-next, byte-more, byte-room}
 use borrow.Author.Needs.{needs}
 use Rattle.reader.proofs.cursor.number_at.Statement.{statement}
 use Rattle.reader.proofs.cursor.number_at.Tie as tie
-use Rattle.reader.proofs.cursor.number_at.Reads as reads
-use Rattle.reader.proofs.cursor.number_at.Lts as lts
 
 abbrev Inv-loop : tie.InvT-loop
 Inv-loop msg at width x₀ k₀ x k = (k ≤ width) × (x ≡ numberAt msg at k) × (x < 256 ^ k)

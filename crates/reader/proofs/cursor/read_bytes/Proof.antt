@@ -10,10 +10,6 @@ use lib.ListN.{length}
 use Rattle.message.specs.Cursors.{within, readBytes}
 use Rattle.reader.proofs.cursor.read_bytes.Statement.{statement}
 use Rattle.reader.proofs.cursor.read_bytes.Tie as tie
-use Rattle.reader.proofs.cursor.read_bytes.Reads as reads
-use Rattle.reader.proofs.cursor.read_bytes.Lts as lts
-use Rattle.reader.proofs.cursor.number_at.Reads as number-at-reads
-use Rattle.reader.proofs.cursor.stay.Reads as stay-reads
 
 sub-if1 : tie.Need-sub-if1
 sub-if1 c = search needs

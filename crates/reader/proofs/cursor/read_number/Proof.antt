@@ -5,10 +5,6 @@ use borrow.Author.Tests.{eq-eqb, ne-eqb}
 use Rattle.message.specs.Cursors.{readNumber}
 use Rattle.reader.proofs.cursor.read_number.Statement.{statement}
 use Rattle.reader.proofs.cursor.read_number.Tie as tie
-use Rattle.reader.proofs.cursor.read_number.Reads as reads
-use Rattle.reader.proofs.cursor.read_number.Lts as lts
-use Rattle.reader.proofs.cursor.read_bytes.Reads as read-bytes-reads
-use Rattle.reader.proofs.cursor.stay.Reads as stay-reads
 
 stay-requires : tie.Need-stay-requires
 stay-requires c κs = search needs

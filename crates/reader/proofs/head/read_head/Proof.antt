@@ -5,12 +5,6 @@ use Rattle.config.proofs.Clusters.{valid-bounds}
 use Rattle.message.specs.Scans.{headOf}
 use Rattle.reader.proofs.head.read_head.Statement.{statement}
 use Rattle.reader.proofs.head.read_head.Tie as tie
-use Rattle.reader.proofs.head.read_head.Reads as reads
-use Rattle.reader.proofs.head.read_head.Lts as lts
-use Rattle.reader.proofs.cursor.bit.Reads as bit-reads
-use Rattle.reader.proofs.cursor.read_number.Reads as read-number-reads
-use Rattle.reader.proofs.head.read_kind.Reads as read-kind-reads
-use Rattle.reader.proofs.head.read_map.Reads as read-map-reads
 
 read-map-requires : tie.Need-read-map-requires
 read-map-requires c κs = search needs

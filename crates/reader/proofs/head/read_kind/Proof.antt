@@ -4,11 +4,6 @@ use borrow.Author.Needs.{needs}
 use Rattle.message.specs.Scans.{readKind}
 use Rattle.reader.proofs.head.read_kind.Statement.{statement}
 use Rattle.reader.proofs.head.read_kind.Tie as tie
-use Rattle.reader.proofs.head.read_kind.Reads as reads
-use Rattle.reader.proofs.head.read_kind.Lts as lts
-use Rattle.reader.proofs.cursor.read_number.Reads as read-number-reads
-use Rattle.reader.proofs.cursor.require.Reads as require-reads
-use Rattle.reader.proofs.head.kind_has.Reads as kind-has-reads
 
 read-number-requires : tie.Need-read-number-requires
 read-number-requires c κs = search needs

@@ -4,11 +4,6 @@ use borrow.Author.Needs.{needs}
 use Rattle.message.specs.Scans.{readMap}
 use Rattle.reader.proofs.head.read_map.Statement.{statement}
 use Rattle.reader.proofs.head.read_map.Tie as tie
-use Rattle.reader.proofs.head.read_map.Reads as reads
-use Rattle.reader.proofs.head.read_map.Lts as lts
-use Rattle.reader.proofs.cursor.read_number.Reads as read-number-reads
-use Rattle.reader.proofs.cursor.require.Reads as require-reads
-use Rattle.reader.proofs.head.map_lawful.Reads as map-lawful-reads
 
 read-number-requires : tie.Need-read-number-requires
 read-number-requires c κs = search needs

@@ -9,11 +9,6 @@ use Rattle.message.specs.Answers.{checkAnswer, verdictOf, refusalOf}
 use Rattle.message.specs.Answers as A
 use Rattle.reader.proofs.read.check.Statement.{statement}
 use Rattle.reader.proofs.read.check.Tie as tie
-use Rattle.reader.proofs.read.check.Reads as reads
-use Rattle.reader.proofs.read.check.Lts as lts
-use Rattle.config.proofs.cluster.Config.valid.Reads as valid-reads
-use Rattle.message.proofs.refusal.Reads as refusal-reads
-use Rattle.reader.proofs.scan.scan.Reads as scan-reads
 
 valid-requires : tie.Need-valid-requires
 valid-requires c κs = search needs

@@ -7,12 +7,6 @@ use Rattle.config.specs.Cluster.{validOf}
 use Rattle.message.specs.Answers.{check, decode, fieldsAnswer, verdictOf, refusalOf}
 use Rattle.reader.proofs.read.fields.Statement.{statement}
 use Rattle.reader.proofs.read.fields.Tie as tie
-use Rattle.reader.proofs.read.fields.Reads as reads
-use Rattle.reader.proofs.read.fields.Lts as lts
-use Rattle.config.proofs.cluster.Config.valid.Reads as valid-reads
-use Rattle.message.proofs.refusal.Reads as refusal-reads
-use Rattle.message.proofs.header.Header.blank.Reads as blank-reads
-use Rattle.reader.proofs.scan.scan.Reads as scan-reads
 
 valid-requires : tie.Need-valid-requires
 valid-requires c κs = search needs

@@ -9,15 +9,10 @@ use borrow.Author.Tests.{eq-eqb, ne-eqb, not-true, not-false}
 use lib.ListN.{length}
 use Rattle.config.specs.Cluster.{validOf}
 use Rattle.message.specs.declared.state.Scan.{Scan}
-use Rattle.message.specs.Scans.{scanOf}
 use Rattle.message.specs.Answers.{check, decode, valueAnswer}
 use Rattle.message.proofs.Parts.{value-within}
 use Rattle.reader.proofs.read.value.Statement.{statement}
 use Rattle.reader.proofs.read.value.Tie as tie
-use Rattle.reader.proofs.read.value.Reads as reads
-use Rattle.reader.proofs.read.value.Lts as lts
-use Rattle.config.proofs.cluster.Config.valid.Reads as valid-reads
-use Rattle.reader.proofs.scan.scan.Reads as scan-reads
 
 valid-requires : tie.Need-valid-requires
 valid-requires c κs = search needs

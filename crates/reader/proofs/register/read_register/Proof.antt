@@ -5,12 +5,6 @@ use Rattle.message.specs.Scans.{registerOf}
 use Rattle.reader.proofs.Numbers.{stamp-width, stamp-room}
 use Rattle.reader.proofs.register.read_register.Statement.{statement}
 use Rattle.reader.proofs.register.read_register.Tie as tie
-use Rattle.reader.proofs.register.read_register.Reads as reads
-use Rattle.reader.proofs.register.read_register.Lts as lts
-use Rattle.config.proofs.cluster.Config.most_stamp.Reads as most-stamp-reads
-use Rattle.config.proofs.cluster.Config.stamp_bytes.Reads as stamp-bytes-reads
-use Rattle.reader.proofs.cursor.read_number.Reads as read-number-reads
-use Rattle.reader.proofs.cursor.skip.Reads as skip-reads
 
 stamp-bytes-requires : tie.Need-stamp-bytes-requires
 stamp-bytes-requires c κs = search needs

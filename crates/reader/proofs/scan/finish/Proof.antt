@@ -10,10 +10,6 @@ use Rattle.message.specs.Scans.{endOf}
 use Rattle.reader.proofs.Steps.{require-stays}
 use Rattle.reader.proofs.scan.finish.Statement.{statement}
 use Rattle.reader.proofs.scan.finish.Tie as tie
-use Rattle.reader.proofs.scan.finish.Reads as reads
-use Rattle.reader.proofs.scan.finish.Lts as lts
-use Rattle.ledger.proofs.ledger.Ledger.check_floor.Reads as check-floor-reads
-use Rattle.reader.proofs.cursor.require.Reads as require-reads
 
 require-requires : tie.Need-require-requires
 require-requires c κs = search needs

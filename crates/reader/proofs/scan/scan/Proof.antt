@@ -4,14 +4,6 @@ use borrow.Author.Needs.{needs}
 use Rattle.message.specs.Scans.{readNote, scanOf}
 use Rattle.reader.proofs.scan.scan.Statement.{statement}
 use Rattle.reader.proofs.scan.scan.Tie as tie
-use Rattle.reader.proofs.scan.scan.Reads as reads
-use Rattle.reader.proofs.scan.scan.Lts as lts
-use Rattle.reader.proofs.cursor.bit.Reads as bit-reads
-use Rattle.reader.proofs.cursor.read_number.Reads as read-number-reads
-use Rattle.reader.proofs.head.read_head.Reads as read-head-reads
-use Rattle.reader.proofs.register.read_register.Reads as read-register-reads
-use Rattle.reader.proofs.scan.finish.Reads as finish-reads
-use Rattle.reader.proofs.sheet.read_sheet.Reads as read-sheet-reads
 
 read-head-requires : tie.Need-read-head-requires
 read-head-requires c κs = search needs

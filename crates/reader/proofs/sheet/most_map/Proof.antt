@@ -6,8 +6,6 @@ use lib.Pow.{pow-pos}
 use borrow.Author.Needs.{needs}
 use Rattle.reader.proofs.sheet.most_map.Statement.{statement}
 use Rattle.reader.proofs.sheet.most_map.Tie as tie
-use Rattle.reader.proofs.sheet.most_map.Reads as reads
-use Rattle.reader.proofs.sheet.most_map.Lts as lts
 
 cast-n : tie.Need-cast-n
 cast-n c = omega (arith, valid-bounds _ (c .before .pre))

@@ -4,12 +4,6 @@ use borrow.Author.Needs.{needs}
 use Rattle.message.specs.Scans.{cellMapOf}
 use Rattle.reader.proofs.sheet.read_cell_map.Statement.{statement}
 use Rattle.reader.proofs.sheet.read_cell_map.Tie as tie
-use Rattle.reader.proofs.sheet.read_cell_map.Reads as reads
-use Rattle.reader.proofs.sheet.read_cell_map.Lts as lts
-use Rattle.reader.proofs.cursor.bit.Reads as bit-reads
-use Rattle.reader.proofs.cursor.read_number.Reads as read-number-reads
-use Rattle.reader.proofs.cursor.require.Reads as require-reads
-use Rattle.reader.proofs.sheet.most_map.Reads as most-map-reads
 
 most-map-requires : tie.Need-most-map-requires
 most-map-requires c κs = search needs

@@ -1,7 +1,7 @@
 -- `read_cells` meets its contract: after j cells the cursor, the total and the values are those of the first j.
 use Prim.Native.Nat.{ℕ, _+_, _*_, _-_, _≤_, _<_}
 use native.Mathlib.Omega.{arith}
-use mathlib.Core.Path.{_≡_, refl, _∙_}
+use mathlib.Core.Path.{_≡_, refl}
 use borrow.Author.Needs.{needs}
 use lib.ListN.{length, getD, length-set}
 use Rattle.quorums.specs.Sum.{sum}
@@ -11,10 +11,6 @@ use Rattle.message.specs.Scans.{cellsAfter, cellRead}
 use Rattle.reader.proofs.Steps.{cells-next, cell-next}
 use Rattle.reader.proofs.sheet.read_cells.Statement.{statement}
 use Rattle.reader.proofs.sheet.read_cells.Tie as tie
-use Rattle.reader.proofs.sheet.read_cells.Reads as reads
-use Rattle.reader.proofs.sheet.read_cells.Lts as lts
-use Rattle.reader.proofs.cursor.bit.Reads as bit-reads
-use Rattle.reader.proofs.cursor.read_number.Reads as read-number-reads
 
 abbrev Inv-loop : tie.InvT-loop
 Inv-loop msg map out₀ cursor₀ total₀ j₀ out cursor total j =

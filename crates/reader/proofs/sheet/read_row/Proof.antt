@@ -4,19 +4,11 @@ use mathlib.Core.Path.{_≡_, sym, ap, _∙_}
 use borrow.Author.Needs.{needs}
 use lib.ListN.{length}
 use Rattle.ledger.proofs.Tables.{table-same}
-use Rattle.message.specs.Scans.{readCount, rowCells, rowOf}
+use Rattle.message.specs.Scans.{readCount, rowOf}
 use Rattle.reader.proofs.Steps.{row-cell}
 use Rattle.reader.proofs.Absent.{row-absent, row-cells-absent}
 use Rattle.reader.proofs.sheet.read_row.Statement.{statement}
 use Rattle.reader.proofs.sheet.read_row.Tie as tie
-use Rattle.reader.proofs.sheet.read_row.Reads as reads
-use Rattle.reader.proofs.sheet.read_row.Lts as lts
-use Rattle.reader.proofs.cursor.read_number.Reads as read-number-reads
-use Rattle.reader.proofs.cursor.require.Reads as require-reads
-use Rattle.reader.proofs.cursor.stay.Reads as stay-reads
-use Rattle.reader.proofs.sheet.read_cell_map.Reads as read-cell-map-reads
-use Rattle.reader.proofs.sheet.read_cells.Reads as read-cells-reads
-use Rattle.reader.proofs.sheet.total_fits.Reads as total-fits-reads
 
 stay-requires : tie.Need-stay-requires
 stay-requires c κs = search needs

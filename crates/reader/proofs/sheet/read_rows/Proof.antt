@@ -1,19 +1,15 @@
 -- `read_rows` meets its contract: after i rows the cursor, the counts and the cells are those of the first i; the other cells are 0.
 use Prim.Native.Nat.{ℕ, _+_, _*_, _-_, _≤_, _<_}
 use native.Mathlib.Omega.{arith}
-use mathlib.Core.Path.{_≡_, refl, _∙_}
+use mathlib.Core.Path.{_≡_, refl}
 use borrow.Author.Needs.{needs}
 use lib.ListN.{length, getD, length-set}
 use Rattle.ledger.proofs.Tables.{is-table, filled-next}
-use Rattle.message.specs.Scans.{countRead, cellOfRow, rowsAfter, ledgerRead}
+use Rattle.message.specs.Scans.{countRead, cellOfRow, rowsAfter}
 use Rattle.reader.proofs.Steps.{rows-next, count-next, row-is, ledger-is}
 use Rattle.reader.proofs.Rows.{Filled, rows-none, row-blank, row-next, rows-all}
 use Rattle.reader.proofs.sheet.read_rows.Statement.{statement}
 use Rattle.reader.proofs.sheet.read_rows.Tie as tie
-use Rattle.reader.proofs.sheet.read_rows.Reads as reads
-use Rattle.reader.proofs.sheet.read_rows.Lts as lts
-use Rattle.reader.proofs.cursor.bit.Reads as bit-reads
-use Rattle.reader.proofs.sheet.read_row.Reads as read-row-reads
 
 abbrev Inv-loop : tie.InvT-loop
 Inv-loop config msg map counts₀ cells₀ cursor₀ i₀ counts cells cursor i =

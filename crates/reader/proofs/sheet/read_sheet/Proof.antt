@@ -3,11 +3,6 @@ use borrow.Author.Needs.{needs}
 use Rattle.message.specs.Scans.{sheetOf}
 use Rattle.reader.proofs.sheet.read_sheet.Statement.{statement}
 use Rattle.reader.proofs.sheet.read_sheet.Tie as tie
-use Rattle.reader.proofs.sheet.read_sheet.Reads as reads
-use Rattle.reader.proofs.sheet.read_sheet.Lts as lts
-use Rattle.reader.proofs.cursor.read_number.Reads as read-number-reads
-use Rattle.reader.proofs.sheet.most_map.Reads as most-map-reads
-use Rattle.reader.proofs.sheet.read_rows.Reads as read-rows-reads
 
 most-map-requires : tie.Need-most-map-requires
 most-map-requires c κs = search needs

@@ -4,8 +4,6 @@ use Rattle.ledger.specs.Checks.{totalFits}
 use borrow.Author.Needs.{needs}
 use Rattle.reader.proofs.sheet.total_fits.Statement.{statement}
 use Rattle.reader.proofs.sheet.total_fits.Tie as tie
-use Rattle.reader.proofs.sheet.total_fits.Reads as reads
-use Rattle.reader.proofs.sheet.total_fits.Lts as lts
 
 returns : tie.Need-returns
 unfolding totalFits
