@@ -35,19 +35,15 @@ unfolding rowCells readCount
 row-cell c msg i s from p q j = rw (← p, ← q)
 
 -- one row more: the cursor, the count and the cells, from the cursor before it and its bit
-module _ (c : Config) (msg : List ℕ) (m : ℕ) (from : Cursor) (i b : ℕ) (at : Cursor) (here : at ≡ rowsAfter c msg m from i) (stands : b ≡ bit m i) where
-  pub rows-next : {r : RowRead} → r ≡ rowOf c msg i b at → r .cursor ≡ rowsAfter c msg m from (i + 1)
-  unfolding rowsAfter
-  rows-next p = rw add-one (ap (λ (r : RowRead). r .cursor) p ∙ ap₂ (λ (s : ℕ) (d : Cursor). rowOf c msg i s d .cursor) stands here)
+pub row-turn : (c : Config) (msg : List ℕ) (m : ℕ) (from : Cursor) (i b : ℕ) {at : Cursor} {r : RowRead} {l : List ℕ}
+    → at ≡ rowsAfter c msg m from i → b ≡ bit m i → r ≡ rowOf c msg i b at → l ≡ table 16 (rowCells c msg i b at)
+    → (r .cursor ≡ rowsAfter c msg m from (i + 1)) × (r .count ≡ countRead c msg m from i) × (l ≡ table 16 (cellOfRow c msg m from i))
+unfolding rowsAfter countRead cellOfRow
+row-turn c msg m from i b here stands row cells =
+    let full : _ ≡ rowOf c msg i (bit m i) (rowsAfter c msg m from i) = row ∙ ap₂ (rowOf c msg i) stands here in
+    (rw add-one (ap (λ (r : RowRead). r .cursor) full), ap (λ (r : RowRead). r .count) full, cells ∙ ap₂ (λ (s : ℕ) (d : Cursor). table 16 (rowCells c msg i s d)) stands here)
 
-  pub count-next : {r : RowRead} → r ≡ rowOf c msg i b at → r .count ≡ countRead c msg m from i
-  unfolding countRead
-  count-next p = ap (λ (r : RowRead). r .count) p ∙ ap₂ (λ (s : ℕ) (d : Cursor). rowOf c msg i s d .count) stands here
-
-  pub row-is : {l : List ℕ} → l ≡ table 16 (rowCells c msg i b at) → l ≡ table 16 (cellOfRow c msg m from i)
-  unfolding cellOfRow
-  row-is p = rw (← here, ← stands) p
-
+-- the ledger of a sheet
 pub ledger-is : (c : Config) (msg : List ℕ) (m : ℕ) (from : Cursor) {counts cells : List ℕ} → counts ≡ table 16 (countRead c msg m from)
     → cells ≡ table 256 (λ k. cellOfRow c msg m from (k / 16) (k % 16)) → record { counts = counts; cells = cells } ≡ ledgerRead c msg m from
 unfolding ledgerRead

@@ -2,10 +2,10 @@
 use Prim.Native.Nat.{_+_, _*_, _-_, _^_, _≤_, _<_}
 use native.Mathlib.Omega.{arith}
 use mathlib.Core.Path.{_≡_, refl}
+use borrow.Author.Needs.{needs}
 use lib.ListN.{getD}
 use Rattle.message.specs.Cursors.{numberAt}
 use Rattle.reader.proofs.Numbers.{number-next, byte-more, byte-room}
-use borrow.Author.Needs.{needs}
 use Rattle.reader.proofs.cursor.number_at.Statement.{statement}
 use Rattle.reader.proofs.cursor.number_at.Tie as tie
 

@@ -24,6 +24,10 @@ returns c =
     let short : leb (a .cursor .at + a .width) (length (a .msg .now)) ≡ false = lt-leb (a .cursor .at + a .width) (length (a .msg .now)) (omega arith) in
     rw (c .stay .ensures) (simp short, omega arith, omega arith)
 
+-- the bytes are there
+there : (c : tie.Else1) → leb (c .before .before .args .cursor .at + c .before .before .args .width) (length (c .before .before .args .msg .now)) ≡ true
+there c = le-leb (c .before .before .args .cursor .at + c .before .before .args .width) (length (c .before .before .args .msg .now)) (omega arith)
+
 number-at-requires : tie.Need-number-at-requires
 number-at-requires c κs = search needs
 
@@ -33,9 +37,7 @@ stay-requires-2 c κs = search needs
 returns-2 : tie.Need-returns-2
 unfolding readBytes within
 returns-2 c =
-    let a = c .before .before .before .before .before .args in
-    let there : leb (a .cursor .at + a .width) (length (a .msg .now)) ≡ true = le-leb (a .cursor .at + a .width) (length (a .msg .now)) (omega arith) in
-    rw (c .stay2 .ensures) (simp (there, sym (c .before .before .number-at .ensures), lt-leb _ _ (c .before .if2 .taken)), omega arith, omega arith)
+    rw (c .stay2 .ensures) (simp (there (c .before .before .before), sym (c .before .before .number-at .ensures), lt-leb _ _ (c .before .if2 .taken)), omega arith, omega arith)
 
 stay-requires-3 : tie.Need-stay-requires-3
 stay-requires-3 c κs = search needs
@@ -43,10 +45,8 @@ stay-requires-3 c κs = search needs
 returns-3 : tie.Need-returns-3
 unfolding readBytes within
 returns-3 c =
-    let a = c .before .before .before .before .before .before .args in
-    let there : leb (a .cursor .at + a .width) (length (a .msg .now)) ≡ true = le-leb (a .cursor .at + a .width) (length (a .msg .now)) (omega arith) in
     rw (c .stay3 .ensures)
-    (simp (there, sym (c .before .before .before .number-at .ensures), le-leb _ _ (c .before .before .if2 .left), lt-leb _ _ (c .before .if3 .taken)), omega arith, omega arith)
+    (simp (there (c .before .before .before .before), sym (c .before .before .before .number-at .ensures), le-leb _ _ (c .before .before .if2 .left), lt-leb _ _ (c .before .if3 .taken)), omega arith, omega arith)
 
 add-t8 : tie.Need-add-t8
 add-t8 c = search needs
@@ -54,9 +54,7 @@ add-t8 c = search needs
 returns-4 : tie.Need-returns-4
 unfolding readBytes within
 returns-4 c =
-    let a = c .before .before .before .before .before .args in
-    let there : leb (a .cursor .at + a .width) (length (a .msg .now)) ≡ true = le-leb (a .cursor .at + a .width) (length (a .msg .now)) (omega arith) in
-    (simp (there, sym (c .before .before .number-at .ensures), le-leb _ _ (c .before .if2 .left), le-leb _ _ (c .if3 .left)), omega arith, omega arith)
+    (simp (there (c .before .before .before), sym (c .before .before .number-at .ensures), le-leb _ _ (c .before .if2 .left), le-leb _ _ (c .if3 .left)), omega arith, omega arith)
 
 pub read-bytes-spec : {M : Type 1} → statement M
 read-bytes-spec =

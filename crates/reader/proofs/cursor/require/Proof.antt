@@ -1,9 +1,9 @@
 -- `require` meets its contract, test by test.
 use native.Mathlib.Omega.{arith}
 use mathlib.Core.Path.{refl}
+use borrow.Author.Needs.{needs}
 use borrow.Author.Tests.{eq-eqb, ne-eqb}
 use Rattle.message.specs.Cursors.{require}
-use borrow.Author.Needs.{needs}
 use Rattle.reader.proofs.cursor.require.Statement.{statement}
 use Rattle.reader.proofs.cursor.require.Tie as tie
 

@@ -1,8 +1,8 @@
 -- `kind_has` meets its contract, test by test.
 use mathlib.Core.Path.{sym}
+use borrow.Author.Needs.{needs}
 use borrow.Author.Tests.{eq-eqb, ne-eqb}
 use Rattle.message.specs.Scans.{kindHas}
-use borrow.Author.Needs.{needs}
 use Rattle.reader.proofs.head.kind_has.Statement.{statement}
 use Rattle.reader.proofs.head.kind_has.Tie as tie
 

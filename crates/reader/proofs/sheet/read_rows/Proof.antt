@@ -6,7 +6,7 @@ use borrow.Author.Needs.{needs}
 use lib.ListN.{length, getD, length-set}
 use Rattle.ledger.proofs.Tables.{is-table, filled-next}
 use Rattle.message.specs.Scans.{countRead, cellOfRow, rowsAfter}
-use Rattle.reader.proofs.Steps.{rows-next, count-next, row-is, ledger-is}
+use Rattle.reader.proofs.Steps.{row-turn, ledger-is}
 use Rattle.reader.proofs.Rows.{Filled, rows-none, row-blank, row-next, rows-all}
 use Rattle.reader.proofs.sheet.read_rows.Statement.{statement}
 use Rattle.reader.proofs.sheet.read_rows.Tie as tie
@@ -76,14 +76,13 @@ loop-again c =
     let t : l .i < 16 = c .before .before .before .before .before .before .loop-test .taken in
     let b = c .before .before .before .before .before .bit .ensures .0 in
     let row = c .before .before .before .read-row .ensures in
-    let count = count-next (a .config) (a .msg .now) (a .map .x) (a .map) (l .i) _ (l .cursor) (l .inv .1) b (row .0) in
-    let cells = row-is (a .config) (a .msg .now) (a .map .x) (a .map) (l .i) _ (l .cursor) (l .inv .1) b (row .1) in (
+    let turn = row-turn (a .config) (a .msg .now) (a .map .x) (a .map) (l .i) _ (l .inv .1) b (row .0) (row .1) in (
       omega arith,
-      rows-next (a .config) (a .msg .now) (a .map .x) (a .map) (l .i) _ (l .cursor) (l .inv .1) b (row .0),
+      turn .0,
       row .2,
       simp length-set (l .inv .3),
-      filled-next _ (l .counts) (l .i) _ (omega (arith, l .inv .3)) (l .inv .4) count,
-      row-next _ (l .cells) _ (l .i) (l .i * 16 + 16 - l .i * 16) (omega arith) cells t (l .inv .5),
+      filled-next _ (l .counts) (l .i) _ (omega (arith, l .inv .3)) (l .inv .4) (turn .1),
+      row-next _ (l .cells) _ (l .i) (l .i * 16 + 16 - l .i * 16) (omega arith) (turn .2) t (l .inv .5),
     )
 
 returns : tie.Need-returns Inv-loop μ-loop

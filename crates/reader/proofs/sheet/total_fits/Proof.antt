@@ -1,7 +1,7 @@
 -- `total_fits` meets its contract, test by test.
+use borrow.Author.Needs.{needs}
 use borrow.Author.Tests.{lt-leb, le-leb}
 use Rattle.ledger.specs.Checks.{totalFits}
-use borrow.Author.Needs.{needs}
 use Rattle.reader.proofs.sheet.total_fits.Statement.{statement}
 use Rattle.reader.proofs.sheet.total_fits.Tie as tie
 
