@@ -32,7 +32,8 @@ returns-2 : tie.Need-returns-2
 unfolding checkAnswer A.check verdictOf
 returns-2 c =
     let scanned = c .before .before .before in
-    simp (valid (scanned .before), sym (scanned .scan .ensures), ne-eqb _ _ (c .before .if2 .taken)) (ap Verdict.Refused (c .refusal .ensures))
+    let fault : scanned .scan .result .number ≡ 0 → ⊥ = c .before .if2 .taken in
+    simp (valid (scanned .before), sym (scanned .scan .ensures), ne-eqb _ _ fault) (ap Verdict.Refused (c .refusal .ensures))
 
 returns-3 : tie.Need-returns-3
 unfolding checkAnswer A.check verdictOf

@@ -42,7 +42,8 @@ unfolding valueAnswer decode check
 returns-2 c =
     let scanned = c .before .before .before in
     let a = scanned .before .before .before .before .args in
-    let none : [] ≡ valueAnswer (a .config) (a .msg .now) = simp (valueAnswer, decode, check, valid (scanned .before), sym (scanned .scan .ensures), ne-eqb _ _ (c .before .if2 .taken)) in
+    let fault : scanned .scan .result .number ≡ 0 → ⊥ = c .before .if2 .taken in
+    let none : [] ≡ valueAnswer (a .config) (a .msg .now) = simp (valueAnswer, decode, check, valid (scanned .before), sym (scanned .scan .ensures), ne-eqb _ _ fault) in
     none
 
 -- the value lies within the message

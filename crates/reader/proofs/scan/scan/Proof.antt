@@ -1,6 +1,8 @@
 -- `scan` meets its contract: each part in turn, from the cursor of the one before it; each number fits its field.
 use native.Mathlib.Omega.{arith}
+use mathlib.Core.Path.{_≡_}
 use borrow.Author.Needs.{needs}
+use Rattle.message.specs.Cursors.{readNumber}
 use Rattle.message.specs.Scans.{readNote, scanOf}
 use Rattle.reader.proofs.scan.scan.Statement.{statement}
 use Rattle.reader.proofs.scan.scan.Tie as tie
@@ -60,14 +62,15 @@ returns : tie.Need-returns
 unfolding scanOf readNote
 returns c =
     let end = c .before .before .before .before .before .before .before in
+    let a = after-head end .before .before .args in
     let head = after-head end .read-head .ensures .0 in
     let register-stands = after-register end .before .bit .ensures .0 in
     let register = after-register end .read-register .ensures .0 in
     let sheet-stands = end .before .before .before .before .before .before .bit2 .ensures .0 in
-    let sheet = end .before .before .before .before .before .read-sheet .ensures .0 in
-    let note-stands = end .before .before .bit3 .ensures .0 in
-    let note = end .before .read-number .ensures .0 in
-    rw (← head, ← register-stands, ← register, ← sheet-stands, ← sheet, ← note-stands, ← note, ← end .finish .ensures)
+    let sheet = end .before .before .before .before .before .read-sheet in
+    let note-stands = end .before .before .bit3 in
+    let note : end .before .read-number .result ≡ readNumber (a .msg .now) (note-stands .result) 4 1 4294967295 (sheet .result .cursor) = end .before .read-number .ensures .0 in
+    rw (← head, ← register-stands, ← register, ← sheet-stands, ← sheet .ensures .0, ← note-stands .ensures .0, ← note, ← end .finish .ensures)
 
 pub scan-spec : {M : Type 1} → statement M
 scan-spec =

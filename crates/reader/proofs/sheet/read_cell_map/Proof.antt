@@ -1,6 +1,9 @@
 -- `read_cell_map` meets its contract: the number, then the test of the giver's own bit.
 use native.Mathlib.Omega.{arith}
+use mathlib.Core.Path.{_≡_}
 use borrow.Author.Needs.{needs}
+use lib.Dec.{eqb}
+use Rattle.message.specs.Cursors.{require}
 use Rattle.message.specs.Scans.{cellMapOf}
 use Rattle.reader.proofs.sheet.read_cell_map.Statement.{statement}
 use Rattle.reader.proofs.sheet.read_cell_map.Tie as tie
@@ -21,8 +24,9 @@ returns : tie.Need-returns
 unfolding cellMapOf
 returns c =
     let most = c .before .before .before .most-map .ensures in
-    let number = c .before .before .read-number .ensures in
-    (rw (← most .0, ← number .0, ← c .before .bit .ensures .0) (c .require .ensures .0), omega (arith, c .require .ensures, number))
+    let number = c .before .before .read-number in
+    let own : c .require .result ≡ require (eqb (c .before .bit .result) 0) 4 (number .result) = c .require .ensures .0 in
+    (rw (← most .0, ← number .ensures .0, ← c .before .bit .ensures .0) own, omega (arith, c .require .ensures, number .ensures))
 
 pub read-cell-map-spec : {M : Type 1} → statement M
 read-cell-map-spec =
