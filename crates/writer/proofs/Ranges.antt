@@ -1,0 +1,64 @@
+-- What a call knows of an argument that is an array, a ledger or a header: arrays have their lengths, and each number fits its type.
+use Prim.Native.Nat.{ℕ, zero, suc, _^_, _<_}
+use native.Mathlib.Omega.{arith}
+use mathlib.Core.Path.{_≡_, sym, _∙_}
+use mathlib.Core.List.{List, [], _∷_, map}
+use lib.ListN.{length, getD, length-map, List·getD-map}
+use lib.Pow.{pow-pos}
+use mir.Syntax.{Width, w16, w32}
+use mir.Val.{Val, bits}
+use denote.Array.{Array, each}
+use denote.Shadow.{shadow}
+use denote.Plain.{UInt}
+use denote.Laws.{Is}
+use denote.Struct.Declared.{row as rowOf}
+use Rattle.ledger.specs.declared.ledger.Ledger.{Ledger}
+use Rattle.ledger.proofs.ledger.Ledger as L
+use Rattle.ledger.specs.Ledgers.{Typed}
+use Rattle.message.specs.declared.header.Header.{Header}
+use Rattle.message.specs.Headers.{Typed as TypedHeader}
+use Rattle.message.proofs.header.Header as H
+
+each-fits : (w : Width) (xs : List ℕ) (us : List Val) → shadow (each ℕ (UInt w .own) xs us) → (k : ℕ) → getD xs k 0 < 2 ^ bits w
+each-fits w [] us h k = pow-pos (bits w)
+each-fits w (x ∷ xs) [] h k = absurd h
+each-fits w (x ∷ xs) (u ∷ us) h zero = h .0 .1
+each-fits w (x ∷ xs) (u ∷ us) h (suc k) = each-fits w xs us (h .1) k
+
+pub array-length : (w : Width) (n : ℕ) (xs : List ℕ) (vs : List Val) → Is (Array (UInt w) n) xs vs → length xs ≡ n
+array-length w n xs vs h = h .1 .0 .1
+
+pub array-fits : (w : Width) (n : ℕ) (xs : List ℕ) (vs : List Val) → Is (Array (UInt w) n) xs vs → (k : ℕ) → getD xs k 0 < 2 ^ bits w
+array-fits w n xs vs h k = each-fits w xs (h .0) (h .1 .1) k
+
+-- the same of an array that is a field
+
+field-length : (w : Width) (n : ℕ) (xs : List ℕ) (vs : List Val) → Is (Array (UInt w) n) (map (λ (v : ℕ). v) xs) vs → length xs ≡ n
+field-length w n xs vs h = sym (length-map xs (λ v. v)) ∙ array-length w n (map (λ v. v) xs) vs h
+
+field-fits : (w : Width) (n : ℕ) (xs : List ℕ) (vs : List Val) → Is (Array (UInt w) n) (map (λ (v : ℕ). v) xs) vs → (k : ℕ) → getD xs k 0 < 2 ^ bits w
+field-fits w n xs vs h k = rw (List·getD-map (λ v. v) xs k 0) at (array-fits w n (map (λ v. v) xs) vs h k)
+
+pub ledger-typed : (l : Ledger) (vs : List Val) → Is (rowOf L.the-type) l vs → Typed l
+ledger-typed l vs h =
+    record {
+      counts-length = field-length w16 16 (l .counts) _ (h .1 .1 .0);
+      cells-length = field-length w32 256 (l .cells) _ (h .1 .1 .1 .0);
+      count-fits = λ i. omega (arith, field-fits w16 16 (l .counts) _ (h .1 .1 .0) i);
+      cell-fits = λ k. omega (arith, field-fits w32 256 (l .cells) _ (h .1 .1 .1 .0) k);
+    }
+
+pub header-typed : (h : Header) (v : List ℕ) (vs : List Val) → Is (rowOf H.the-type) h vs → ((k : ℕ) → getD v k 0 < 256) → TypedHeader h v
+header-typed h v vs is bytes =
+    let f = is .1 .1 in
+    record {
+      kind-fits = omega (arith, f .0 .1);
+      server-fits = omega (arith, f .1 .0 .1);
+      desk-fits = omega (arith, f .1 .1 .0 .1);
+      round-fits = omega (arith, f .1 .1 .1 .0 .1);
+      stamp-fits = omega (arith, f .1 .1 .1 .1 .0 .1 .1 .0 .1);
+      tag-desk-fits = omega (arith, f .1 .1 .1 .1 .0 .1 .1 .1 .0 .1);
+      note-fits = omega (arith, f .1 .1 .1 .1 .1 .1 .0 .1);
+      ledger-typed = ledger-typed (h .ledger) _ (f .1 .1 .1 .1 .1 .0);
+      value-bytes = record { byte = bytes };
+    }

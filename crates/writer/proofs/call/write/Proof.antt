@@ -1,0 +1,121 @@
+-- `write` meets its contract: the reader's number is found without the bytes, the size before the first byte, and the part from the place on is lent to
+-- `fill`.
+use Prim.Native.Nat.{_+_, _≤_}
+use native.Mathlib.Omega.{arith}
+use mathlib.Core.Path.{_≡_, sym, ap, _∙_}
+use borrow.Author.Needs.{needs}
+use denote.Ref.{now}
+use lib.ListN.{length}
+use Rattle.config.specs.declared.answer.Number.{Number}
+use Rattle.format.specs.Table.{fieldMapOf}
+use Rattle.message.specs.Headers.{fieldsOf, encode, Typed}
+use Rattle.message.specs.Answers.{check}
+use Rattle.message.proofs.Faults.{fault-is-check, taken-told}
+use Rattle.message.proofs.Registers.{fits-good}
+use Rattle.writer.specs.Outlines.{outlineOf, sizeOf}
+use Rattle.writer.proofs.Overs.{lent-length}
+use Rattle.writer.proofs.Ranges.{header-typed}
+use Rattle.writer.proofs.Messages.{message-length}
+use Rattle.writer.proofs.Writes.{write-refused, write-narrow, write-done}
+use Rattle.writer.proofs.call.write.Statement.{statement}
+use Rattle.writer.proofs.call.write.Tie as tie
+
+typed : (c : tie.After-shared-slice-known) → Typed (c .before .args .header) (now (c .before .args .value))
+typed c = header-typed (c .before .args .header) (now (c .before .args .value)) _ (c .before .good .1 .0) (λ k. omega (arith, c .shared-slice-known .given k))
+
+-- the writer's number is the reader's
+found : (c : tie.After-fault) → check (c .before .before .before .args .config) (encode (c .before .before .before .args .config) (c .before .before .before .args .header) (now (c .before .before .before .args .value))) ≡ c .fault .result
+found c = fault-is-check _ _ _ (typed (c .before .before)) ∙ sym (c .fault .ensures)
+
+taken : (c : tie.Else1) → check (c .before .before .before .before .args .config) (encode (c .before .before .before .before .args .config) (c .before .before .before .before .args .header) (now (c .before .before .before .before .args .value))) ≡ 0
+taken c = found (c .before) ∙ c .if1 .left
+
+short : (c : tie.Else1) → length (now (c .before .before .before .before .args .value)) ≤ 64
+short c = fits-good _ _ _ (taken-told _ _ _ (typed (c .before .before .before)) (taken c) .0) .short
+
+-- the plan has the message's map and size
+map-is : (c : tie.After-measure) → c .measure .result .map ≡ fieldMapOf (fieldsOf (c .before .before .before .before .before .before .before .args .header) (now (c .before .before .before .before .before .before .before .args .value)))
+unfolding outlineOf fieldMapOf
+map-is c = rw (← c .before .mark-rows .ensures .0) (ap (λ p. p .map) (c .measure .ensures .0))
+
+size-is : (c : tie.After-measure) → c .measure .result .bytes ≡ length (encode (c .before .before .before .before .before .before .before .args .config) (c .before .before .before .before .before .before .before .args .header) (now (c .before .before .before .before .before .before .before .args .value)))
+unfolding outlineOf
+size-is c =
+    let m = c .before .mark-rows in
+    let a = c .before .before .before .before .before .before .before .args in
+    let e : c .measure .result .bytes ≡ sizeOf (a .config) (a .header) (length (now (a .value))) (m .result .map) (m .result .bytes) =
+        ap (λ p. p .bytes) (c .measure .ensures .0) in
+    (rw (m .ensures .0, m .ensures .2) at e) ∙ sym (message-length (a .config) (a .header) (now (a .value)))
+
+fault-requires : tie.Need-fault-requires
+fault-requires c κs = search needs
+
+refusal-requires : tie.Need-refusal-requires
+refusal-requires c κs = search needs
+
+returns : tie.Need-returns
+returns c =
+    let r = write-refused _ _ _ _ _ _ (found (c .before .before)) (c .before .if1 .taken) in
+    (ap Number.Refused (c .refusal .ensures) ∙ r .0, r .1)
+
+mark-rows-requires : tie.Need-mark-rows-requires
+mark-rows-requires c κs = search needs
+
+measure-requires : tie.Need-measure-requires
+measure-requires c κs = (short (c .before .before), c .mark-rows .ensures .3, c .mark-rows .ensures .4)
+
+returns-2 : tie.Need-returns-2
+returns-2 c = write-narrow _ _ _ _ _ (taken (c .before .before .before .before)) (omega (arith, c .if2 .taken))
+
+sub-if3 : tie.Need-sub-if3
+sub-if3 c = search needs
+
+returns-3 : tie.Need-returns-3
+returns-3 c = write-narrow _ _ _ _ _ (taken (c .before .before .before .before .before .before)) (omega (arith, c .if3 .taken, c .before .before .if2 .left, size-is (c .before .before .before)))
+
+-- the message has room
+room : (c : tie.Else3) → c .before .before .before .before .before .before .before .before .before .before .args .at + length (encode (c .before .before .before .before .before .before .before .before .before .before .args .config) (c .before .before .before .before .before .before .before .before .before .before .args .header) (now (c .before .before .before .before .before .before .before .before .before .before .args .value))) ≤ length (now (c .before .before .before .before .before .before .before .before .before .before .args .out))
+room c = omega (arith, c .if3 .left, c .before .before .if2 .left, size-is (c .before .before .before))
+
+sub-fill : tie.Need-sub-fill
+sub-fill c = search needs
+
+part-fill-start : tie.Need-part-fill-start
+part-fill-start c = search needs
+
+part-fill-end : tie.Need-part-fill-end
+part-fill-end c = search needs
+
+fill-requires : tie.Need-fill-requires
+fill-requires c κs =
+    let m = c .before .before .before .before .before .mark-rows .ensures in
+    (short (c .before .before .before .before .before .before .before), map-is (c .before .before .before .before), m .0, m .1, omega (arith, room (c .before), lent-length (c .before .before .before .before .before .before .before .before .before .before .before .args .at) (now (c .before .before .before .before .before .before .before .before .before .before .before .args .out))))
+
+add-t16 : tie.Need-add-t16
+add-t16 c = omega (arith, room (c .before .before .before .before), c .before .before .fill .ensures .1, c .before .before .before .before .before .before .before .before .before .before .before .before .before .before .good .1 .1 .1 .0 .0)
+
+same-length : tie.Need-same-length
+same-length c = search needs
+
+returns-4 : tie.Need-returns-4
+returns-4 c = write-done _ _ _ _ _ _ _ (taken (c .before .before .before .before .before .before .before .before .before .before)) (room (c .before .before .before .before)) (c .before .before .fill .ensures .0) (c .before .before .fill .ensures .1)
+
+pub write-spec : {M : Type 1} → statement M
+write-spec =
+    tie.close
+    (tie.spec
+    fault-requires
+    refusal-requires
+    returns
+    mark-rows-requires
+    measure-requires
+    returns-2
+    sub-if3
+    returns-3
+    sub-fill
+    part-fill-start
+    part-fill-end
+    fill-requires
+    add-t16
+    same-length
+    returns-4)

@@ -1,0 +1,64 @@
+-- `put_value` meets its contract: the first k bytes of the value are in the buffer.
+use Prim.Native.Nat.{_≤_, _-_}
+use mathlib.Core.Path.{_≡_, sym, _∙_}
+use native.Mathlib.Omega.{arith}
+use lib.ListN.{length, take, length-set}
+use lib.Seq.{take-length}
+use denote.Ref.{now}
+use Rattle.message.specs.Answers.{over}
+use borrow.Author.Needs.{needs}
+use Rattle.writer.proofs.Overs.{over-nothing}
+use Rattle.writer.proofs.Puts.{value-up}
+use Rattle.writer.proofs.put.put_value.Statement.{statement}
+use Rattle.writer.proofs.put.put_value.Tie as tie
+use Rattle.writer.proofs.put.put_value.Reads as reads
+use Rattle.writer.proofs.put.put_value.Lts as lts
+
+abbrev Inv-loop : tie.InvT-loop
+Inv-loop out₀ value k₀ out k = (k ≤ length value) × (length value ≤ length out₀) × (length out ≡ length out₀) × (out ≡ over (take k value) out₀)
+
+abbrev μ-loop : tie.MeasureT-loop
+μ-loop out₀ value k₀ out k = length value - k
+
+loop-holds : tie.Need-loop-holds Inv-loop μ-loop
+loop-holds c = (omega arith, search needs, search needs, sym (over-nothing _))
+
+shared-slice-read-out : tie.Need-shared-slice-read-out Inv-loop μ-loop
+shared-slice-read-out c = search needs
+
+slice-write-out : tie.Need-slice-write-out Inv-loop μ-loop
+slice-write-out c = search needs
+
+add-k : tie.Need-add-k Inv-loop μ-loop
+add-k c = search needs
+
+loop-less : tie.Need-loop-less Inv-loop μ-loop
+loop-less c = search needs
+
+loop-again : tie.Need-loop-again Inv-loop μ-loop
+loop-again c =
+    let inv = c .before .before .loop .inv in
+    (omega arith, inv .1, simp length-set (inv .2), rw (inv .3) (value-up _ _ _ (c .before .loop-test .taken) (inv .1)))
+
+same-length : tie.Need-same-length Inv-loop μ-loop
+same-length c = search needs
+
+returns : tie.Need-returns Inv-loop μ-loop
+returns c =
+    let inv = c .before .loop .inv in
+    let e : c .before .loop .k ≡ length (now (c .before .before .args .value)) = omega arith in (inv .3 ∙ rw (e, take-length), e)
+
+pub put-value-spec : {M : Type 1} → statement M
+put-value-spec =
+    tie.close
+    (tie.spec
+    Inv-loop
+    μ-loop
+    loop-holds
+    shared-slice-read-out
+    slice-write-out
+    add-k
+    loop-less
+    loop-again
+    same-length
+    returns)
