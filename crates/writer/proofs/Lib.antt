@@ -1,10 +1,10 @@
--- Laws, in reading order.
+-- Laws, in reading order: bytes over a buffer, numbers and values, a header's tests, maps, what a call knows of its arguments, rows, whole messages,
+-- and the answers.
 pub mod Overs
 pub mod Puts
 pub mod Faults
 pub mod Outlines
 pub mod Ranges
 pub mod Rows
-pub mod Registers
 pub mod Messages
 pub mod Writes

@@ -1,5 +1,5 @@
--- A whole message, from its map, its row map and its fields, and how long it is.
-use Prim.Native.Nat.{ℕ, _+_, _*_, min}
+-- A register and a whole message, from what the code has of them, and how long they are.
+use Prim.Native.Nat.{ℕ, _+_, _*_, _≤_, min}
 use native.Mathlib.Omega.{arith}
 use mathlib.Core.Path.{_≡_}
 use mathlib.Core.List.{List, _++_, append-assoc}
@@ -13,6 +13,15 @@ use Rattle.format.proofs.Lengths.{number-length}
 use Rattle.message.specs.declared.header.Header.{Header}
 use Rattle.message.specs.Headers.{fieldsOf, encode}
 use Rattle.writer.specs.Outlines.{sizeOf}
+
+-- a register whose value has at most 64 bytes
+pub register-written : (c : Config) (stamp desk : ℕ) (value : List ℕ) → length value ≤ 64
+    → number (stamp + desk + length value) (stampBytes c) stamp ++ number (stamp + desk + length value) 2 desk
+    ++ number (stamp + desk + length value) 1 (length value)
+    ++ value
+    ≡ register c stamp desk value
+unfolding register registerMark
+register-written c stamp desk value h = let e : min (length value) 255 ≡ length value = omega arith in rw e
 
 pub message-written : (c : Config) (h : Header) (v : List ℕ) (map rowsMap : ℕ) → map ≡ fieldMapOf (fieldsOf h v)
     → rowsMap ≡ rowMap (countOf (h .ledger)) (cellOf (h .ledger))

@@ -29,17 +29,21 @@ marked-next {n} {f} {map} {power} s l m e =
     }
 
 -- the numbers stay small
-pub marked-room : {n : ℕ} {f : ℕ → ℕ} {map power : ℕ} → Marked n f map power → (map < power) × (power ≤ 65536)
-marked-room {n} {f} {map} {power} s =
-    (rw (s .is-map, s .is-power) (marks-lt n f), rw (s .is-power) (pow-mono (s .within)))
+marked-room : {n : ℕ} {f : ℕ → ℕ} {map power : ℕ} → Marked n f map power → (map < power) × (power ≤ 65536)
+marked-room {n} {f} {map} {power} s = (rw (s .is-map, s .is-power) (marks-lt n f), rw (s .is-power) (pow-mono (s .within)))
 
-pub mark-le : (m power : ℕ) → m ≤ 1 → m * power ≤ power
-mark-le m power h = rw one-mul at (mul-le-mul-right power h)
+pub marked-small : {n : ℕ} {f : ℕ → ℕ} {map power : ℕ} → Marked n f map power → (m : ℕ) → m ≤ 1
+    → (m * power ≤ 65536) × (map + m * power < 131072) × (power * 2 ≤ 131072)
+marked-small {n} {f} {map} {power} s m h =
+    let r = marked-room s in
+    let t : m * power ≤ power = rw one-mul at (mul-le-mul-right power h) in
+    (omega arith, omega arith, omega arith)
 
 pub marked-all : {n : ℕ} {f : ℕ → ℕ} {map power : ℕ} → Marked n f map power → 16 ≤ n → (map ≡ marks 16 f) × (map ≤ 65535)
 marked-all {n} {f} {map} {power} s l =
-    let e : n ≡ 16 = omega arith in
-    (s .is-map ∙ ap (λ (k : ℕ). marks k f) e, omega (arith, marked-room s .0, marked-room s .1))
+    let e : n ≡ 16 = omega (arith, s .within) in
+    let r = marked-room s in
+    (s .is-map ∙ ap (λ (k : ℕ). marks k f) e, omega arith)
 
 -- the map of a message, bit by bit
 pub map-sum : (desk round register rows note : ℕ)

@@ -1,12 +1,14 @@
 -- Laws of `over`, the bytes written over the front of a buffer: nothing, one byte more, and a part that is lent on.
-use Prim.Native.Nat.{ℕ, suc, _+_, _-_, _≤_, _<_}
+use Prim.Native.Nat.{ℕ, suc, _+_, _-_, _^_, _≤_, _<_}
 use native.Mathlib.Nat.{le-refl}
 use native.Mathlib.Numerals.{add-one}
 use native.Mathlib.Omega.{arith}
 use mathlib.Core.Path.{_≡_, refl, sym, ap, _∙_}
 use mathlib.Core.List.{List, [], _∷_, _++_, append-assoc, append-nil}
-use lib.ListN.{length, getD, take, drop, set, length-append, length-drop, length-set, length-take, drop-of-length-le}
+use lib.ListN.{length, getD, take, drop, set, length-append, length-drop, length-set, drop-of-length-le}
 use lib.Seq.{length-take-le, take-all, drop-cons, take-append-seam, drop-append-seam, drop-drop, getD-set-same, drop-set-lt, set-append-seam}
+use mir.Syntax.{w64}
+use mir.Val.{Fits}
 use Rattle.format.specs.Bytes.{series}
 use Rattle.format.proofs.Lengths.{series-next, series-fits}
 use Rattle.message.specs.Answers.{over}
@@ -15,7 +17,7 @@ pub over-nothing : (l : List ℕ) → over [] l ≡ l
 unfolding over
 over-nothing l = refl
 
-pub over-length : (e l : List ℕ) → length e ≤ length l → length (over e l) ≡ length l
+over-length : (e l : List ℕ) → length e ≤ length l → length (over e l) ≡ length l
 unfolding over
 over-length e l h = simp (length-append, length-drop) (omega arith)
 
@@ -25,9 +27,9 @@ unfolding over
 over-set a l b h =
     let m : length a < length (set l (length a) b) = simp length-set h in
     let d : drop (length a) (set l (length a) b) ≡ b ∷ drop (suc (length a)) l =
-        drop-cons (set l (length a) b) (length a) 0 m
-        ∙ ap (λ (x : ℕ). x ∷ drop (suc (length a)) (set l (length a) b)) (getD-set-same l (length a) b 0 h)
-        ∙ ap (λ (r : List ℕ). b ∷ r) (drop-set-lt (suc (length a)) l (length a) b (omega arith)) in
+    drop-cons (set l (length a) b) (length a) 0 m
+    ∙ ap (λ (x : ℕ). x ∷ drop (suc (length a)) (set l (length a) b)) (getD-set-same l (length a) b 0 h)
+    ∙ ap (λ (r : List ℕ). b ∷ r) (drop-set-lt (suc (length a)) l (length a) b (omega arith)) in
     let n : length (a ++ (b ∷ [])) ≡ suc (length a) = length-append a (b ∷ []) ∙ add-one (length a) in
     rw (d, n, append-assoc)
 
@@ -67,6 +69,9 @@ written-length {e} {l} w = ap length (w .is-buffer) ∙ over-length e l (w .room
 pub written-place : {e l out : List ℕ} {p : ℕ} → Written e l out p → p ≤ length out
 written-place w = omega (arith, w .is-place, w .room, written-length w)
 
+pub written-fits : {e l out : List ℕ} {p : ℕ} → Written e l out p → length l < 2 ^ 64 → Fits w64 p
+written-fits w h = record { fits = omega (arith, w .is-place, w .room, h) }
+
 -- a list that is part of one with room has room
 pub room-first : (e f l : List ℕ) → length (e ++ f) ≤ length l → length e ≤ length l
 room-first e f l h = omega (arith, length-append e f)
@@ -88,7 +93,7 @@ module _ {e l out : List ℕ} {p : ℕ} (w : Written e l out p) where
   back-over f ys given =
       let first : take p out ≡ e = rw (w .is-place, w .is-buffer) (take-append-seam e (drop (length e) l)) in
       let none : drop (length out - p) (drop p out) ≡ [] =
-          drop-of-length-le (drop p out) {i = length out - p} (rw length-drop (le-refl (length out - p))) in
+      drop-of-length-le (drop p out) {i = length out - p} (rw length-drop (le-refl (length out - p))) in
       rw (none, first, append-nil, given, lent-left, drop-drop, length-append, append-assoc)
 
   pub written-next : (f ys : List ℕ) (r : ℕ) → length (e ++ f) ≤ length l → ys ≡ over f (lent p out) → r ≡ length f

@@ -1,9 +1,9 @@
 -- Numbers and values written byte by byte: each turn of the loops keeps what is to be written.
 use Prim.Native.Nat.{ℕ, zero, suc, _+_, _-_, _/_, _%_, _≤_, _<_}
-use native.Mathlib.Numerals.{add-one, sub-one}
+use native.Mathlib.Numerals.{add-one}
 use native.Mathlib.Omega.{arith}
 use mathlib.Core.Path.{_≡_, refl, sym, ap, _∙_}
-use mathlib.Core.List.{List, [], _∷_, _++_}
+use mathlib.Core.List.{List, []}
 use lib.ListN.{length, getD, take, set}
 use lib.Seq.{length-take-le, take-suc}
 use Rattle.format.specs.Bytes.{bytes, number}

@@ -45,7 +45,7 @@ cells-length (suc n) cell =
     length-append (series n (λ j. number (cell j) 4 (cell j))) (number (cell n) 4 (cell n))
     ∙ omega (arith, cells-length n cell, number-length (cell n) 4 (cell n))
 
-pub row-length : (count : ℕ) (cell : ℕ → ℕ) → length (row count cell) ≡ 4 * stands (rowMark count cell) + 4 * sum 16 (λ j. stands (cell j))
+row-length : (count : ℕ) (cell : ℕ → ℕ) → length (row count cell) ≡ 4 * stands (rowMark count cell) + 4 * sum 16 (λ j. stands (cell j))
 unfolding row cells
 row-length count cell =
     let m = rowMark count cell in

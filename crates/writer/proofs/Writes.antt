@@ -1,8 +1,7 @@
 -- What a write answers and leaves in the buffer: refused, too long, done.
 use Prim.Native.Nat.{ℕ, _+_, _-_, _≤_, _<_}
 use native.Mathlib.Nat.{le-refl}
-use native.Mathlib.Omega.{arith}
-use mathlib.Core.Path.{_≡_, refl, sym, ap, _∙_}
+use mathlib.Core.Path.{_≡_}
 use mathlib.Core.List.{List, [], _++_, append-nil}
 use borrow.Author.Tests.{eq-eqb, ne-eqb, le-leb, lt-leb}
 use lib.ListN.{length, take, drop, length-drop, drop-of-length-le}
@@ -34,7 +33,7 @@ module _ (c : Config) (h : Header) (v out : List ℕ) (at : ℕ) where
   part-over ys given =
       let whole : lent at out ≡ drop at out = take-all (length out - at) (drop at out) (rw length-drop (le-refl (length out - at))) in
       let none : drop (length out - at) (drop at out) ≡ [] =
-          drop-of-length-le (drop at out) {i = length out - at} (rw length-drop (le-refl (length out - at))) in
+      drop-of-length-le (drop at out) {i = length out - at} (rw length-drop (le-refl (length out - at))) in
       rw (none, append-nil, given, whole)
 
   pub write-done : (ys : List ℕ) (n : ℕ) → check c (encode c h v) ≡ 0 → at + length (encode c h v) ≤ length out

@@ -1,8 +1,9 @@
 -- `write` meets its contract: the reader's number is found without the bytes, the size before the first byte, and the part from the place on is lent to
 -- `fill`.
-use Prim.Native.Nat.{_+_, _≤_}
+use Prim.Native.Nat.{ℕ, _+_, _≤_}
 use native.Mathlib.Omega.{arith}
-use mathlib.Core.Path.{_≡_, sym, ap, _∙_}
+use mathlib.Core.Path.{_≡_, sym, ap, ap₂, _∙_}
+use mathlib.Core.List.{List}
 use borrow.Author.Needs.{needs}
 use denote.Ref.{now}
 use lib.ListN.{length}
@@ -20,32 +21,46 @@ use Rattle.writer.proofs.Writes.{write-refused, write-narrow, write-don
 use Rattle.writer.proofs.call.write.Statement.{statement}
 use Rattle.writer.proofs.call.write.Tie as tie
 
+-- the message, and the reader's number for it
+
+abbrev message : tie.Start → List ℕ
+message s = encode (s .args .config) (s .args .header) (now (s .args .value))
+
+abbrev number : tie.Start → ℕ
+number s = check (s .args .config) (message s)
+
+-- the header and the value are what their types can hold
 typed : (c : tie.After-shared-slice-known) → Typed (c .before .args .header) (now (c .before .args .value))
-typed c = header-typed (c .before .args .header) (now (c .before .args .value)) _ (c .before .good .1 .0) (λ k. omega (arith, c .shared-slice-known .given k))
+typed c =
+    header-typed (c .before .args .header) (now (c .before .args .value)) _ (c .before .good .1 .0) (λ k. omega (arith, c .shared-slice-known .given k))
 
 -- the writer's number is the reader's
-found : (c : tie.After-fault) → check (c .before .before .before .args .config) (encode (c .before .before .before .args .config) (c .before .before .before .args .header) (now (c .before .before .before .args .value))) ≡ c .fault .result
+found : (c : tie.After-fault) → number (c .before .before .before) ≡ c .fault .result
 found c = fault-is-check _ _ _ (typed (c .before .before)) ∙ sym (c .fault .ensures)
 
-taken : (c : tie.Else1) → check (c .before .before .before .before .args .config) (encode (c .before .before .before .before .args .config) (c .before .before .before .before .args .header) (now (c .before .before .before .before .args .value))) ≡ 0
+taken : (c : tie.Else1) → number (c .before .before .before .before) ≡ 0
 taken c = found (c .before) ∙ c .if1 .left
 
 short : (c : tie.Else1) → length (now (c .before .before .before .before .args .value)) ≤ 64
 short c = fits-good _ _ _ (taken-told _ _ _ (typed (c .before .before .before)) (taken c) .0) .short
 
 -- the plan has the message's map and size
-map-is : (c : tie.After-measure) → c .measure .result .map ≡ fieldMapOf (fieldsOf (c .before .before .before .before .before .before .before .args .header) (now (c .before .before .before .before .before .before .before .args .value)))
+
+abbrev planned : tie.After-measure → tie.Start
+planned c = c .before .before .before .before .before .before .before
+
+map-is : (c : tie.After-measure) → c .measure .result .map ≡ fieldMapOf (fieldsOf (planned c .args .header) (now (planned c .args .value)))
 unfolding outlineOf fieldMapOf
 map-is c = rw (← c .before .mark-rows .ensures .0) (ap (λ p. p .map) (c .measure .ensures .0))
 
-size-is : (c : tie.After-measure) → c .measure .result .bytes ≡ length (encode (c .before .before .before .before .before .before .before .args .config) (c .before .before .before .before .before .before .before .args .header) (now (c .before .before .before .before .before .before .before .args .value)))
+size-is : (c : tie.After-measure) → c .measure .result .bytes ≡ length (message (planned c))
 unfolding outlineOf
 size-is c =
     let m = c .before .mark-rows in
-    let a = c .before .before .before .before .before .before .before .args in
-    let e : c .measure .result .bytes ≡ sizeOf (a .config) (a .header) (length (now (a .value))) (m .result .map) (m .result .bytes) =
-        ap (λ p. p .bytes) (c .measure .ensures .0) in
-    (rw (m .ensures .0, m .ensures .2) at e) ∙ sym (message-length (a .config) (a .header) (now (a .value)))
+    let a = planned c .args in
+    ap (λ p. p .bytes) (c .measure .ensures .0)
+    ∙ ap₂ (λ x y. sizeOf (a .config) (a .header) (length (now (a .value))) x y) (m .ensures .0) (m .ensures .2)
+    ∙ sym (message-length (a .config) (a .header) (now (a .value)))
 
 fault-requires : tie.Need-fault-requires
 fault-requires c κs = search needs
@@ -74,7 +89,7 @@ returns-3 : tie.Need-returns-3
 returns-3 c = write-narrow _ _ _ _ _ (taken (c .before .before .before .before .before .before)) (omega (arith, c .if3 .taken, c .before .before .if2 .left, size-is (c .before .before .before)))
 
 -- the message has room
-room : (c : tie.Else3) → c .before .before .before .before .before .before .before .before .before .before .args .at + length (encode (c .before .before .before .before .before .before .before .before .before .before .args .config) (c .before .before .before .before .before .before .before .before .before .before .args .header) (now (c .before .before .before .before .before .before .before .before .before .before .args .value))) ≤ length (now (c .before .before .before .before .before .before .before .before .before .before .args .out))
+room : (c : tie.Else3) → c .before .before .before .before .before .before .before .before .before .before .args .at + length (message (c .before .before .before .before .before .before .before .before .before .before)) ≤ length (now (c .before .before .before .before .before .before .before .before .before .before .args .out))
 room c = omega (arith, c .if3 .left, c .before .before .if2 .left, size-is (c .before .before .before))
 
 sub-fill : tie.Need-sub-fill

@@ -8,12 +8,9 @@ use lib.ListN.{length, getD}
 use denote.Ref.{now}
 use Rattle.format.specs.Bytes.{number, series}
 use Rattle.format.specs.Table.{cells}
-use Rattle.writer.proofs.Overs.{Written, back, series-room, written-none, written-turn, written-length, written-place, written-lent, written-next}
+use Rattle.writer.proofs.Overs.{Written, back, series-room, written-none, written-turn, written-length, written-place, written-fits, written-lent, written-next}
 use Rattle.writer.proofs.field.put_cells.Statement.{statement}
 use Rattle.writer.proofs.field.put_cells.Tie as tie
-use Rattle.writer.proofs.field.put_cells.Reads as reads
-use Rattle.writer.proofs.field.put_cells.Lts as lts
-use Rattle.writer.proofs.put.put_number.Reads as put-number-reads
 
 -- the bytes of cell j
 abbrev cellAt : List ℕ → ℕ → List ℕ
@@ -48,22 +45,39 @@ part-put-number-start c = written-place (c .before .before .loop .inv .3)
 part-put-number-end : tie.Need-part-put-number-end Inv-loop μ-loop
 part-put-number-end c = search needs
 
+-- cell j has room
+
+abbrev cellsOf : tie.Start Inv-loop μ-loop → ℕ → List ℕ
+cellsOf s = cellAt (now (s .args .row))
+
+abbrev start : tie.In-loop Inv-loop μ-loop → tie.Start Inv-loop μ-loop
+start c = c .before .before .before .before
+
+room : (c : tie.In-loop Inv-loop μ-loop)
+    → length (series (c .before .loop .j) (cellsOf (start c)) ++ cellsOf (start c) (c .before .loop .j)) ≤ length (now (start c .args .out))
+room c = series-room (c .before .loop .j) 16 (cellsOf (start c)) (now (start c .args .out)) (c .loop-test .taken) (c .before .loop .inv .2)
+
 put-number-requires : tie.Need-put-number-requires Inv-loop μ-loop
 put-number-requires c κs =
-    let l = c .before .before .before .loop in
-    let row = now (c .before .before .before .before .before .before .args .row) in
-    written-lent (l .inv .3) (cellAt row (l .j)) (series-room (l .j) 16 (cellAt row) (now (c .before .before .before .before .before .before .args .out)) (c .before .before .loop-test .taken) (l .inv .2))
+    let i = c .before .before in
+    written-lent (i .before .loop .inv .3) (cellsOf (start i) (i .before .loop .j)) (room i)
 
 -- one cell more
-turn : (c : tie.After-put-number Inv-loop μ-loop) → Written (series (c .before .before .before .before .loop .j + 1) (cellAt (now (c .before .before .before .before .before .before .before .args .row)))) (now (c .before .before .before .before .before .before .before .args .out)) (back (c .before .before .before .before .loop .p) (c .before .before .before .before .loop .out) (c .put-number .last .0)) (c .before .before .before .before .loop .p + c .put-number .result)
+
+abbrev again : tie.After-put-number Inv-loop μ-loop → tie.In-loop Inv-loop μ-loop
+again c = c .before .before .before
+
+turn : (c : tie.After-put-number Inv-loop μ-loop)
+    → Written (series (again c .before .loop .j + 1) (cellsOf (start (again c)))) (now (start (again c) .args .out))
+    (back (again c .before .loop .p) (again c .before .loop .out) (c .put-number .last .0))
+    (again c .before .loop .p + c .put-number .result)
 turn c =
-    let l = c .before .before .before .before .loop in
-    let row = now (c .before .before .before .before .before .before .before .args .row) in
-    written-turn (l .j) (cellAt row)
-    (written-next (l .inv .3) (cellAt row (l .j)) _ _ (series-room (l .j) 16 (cellAt row) (now (c .before .before .before .before .before .before .before .args .out)) (c .before .before .before .loop-test .taken) (l .inv .2)) (c .put-number .ensures .0) (c .put-number .ensures .1))
+    let l = again c .before .loop in
+    written-turn (l .j) (cellsOf (start (again c)))
+    (written-next (l .inv .3) (cellsOf (start (again c)) (l .j)) _ _ (room (again c)) (c .put-number .ensures .0) (c .put-number .ensures .1))
 
 add-p : tie.Need-add-p Inv-loop μ-loop
-add-p c = omega (arith, written-place (turn (c .before .before)), written-length (turn (c .before .before)), c .before .before .before .before .before .before .before .before .before .good .0 .0)
+add-p c = written-fits (turn (c .before .before)) (start (again (c .before .before)) .good .0 .0)
 
 add-j : tie.Need-add-j Inv-loop μ-loop
 add-j c = search needs
@@ -81,8 +95,9 @@ returns : tie.Need-returns Inv-loop μ-loop
 unfolding cells
 returns c =
     let l = c .before .loop in
+    let s = c .before .before .before .before in
     let e : l .j ≡ 16 = omega arith in
-    let w : Written (series 16 (cellAt (now (c .before .before .before .before .args .row)))) (now (c .before .before .before .before .args .out)) (l .out) (l .p) = rw e at (l .inv .3) in
+    let w : Written (series 16 (cellsOf s)) (now (s .args .out)) (l .out) (l .p) = rw e at (l .inv .3) in
     (w .is-buffer, w .is-place)
 
 pub put-cells-spec : {M : Type 1} → statement M

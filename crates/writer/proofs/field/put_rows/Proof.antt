@@ -10,14 +10,11 @@ use lib.ListN.{length, getD}
 use Rattle.ledger.proofs.Tables.{table-at}
 use Rattle.format.specs.Bytes.{series}
 use Rattle.format.specs.Table.{cellMap, row, rows}
-use Rattle.writer.proofs.Overs.{Written, back, series-room, written-none, written-turn, written-length, written-place, written-lent, written-next}
+use Rattle.writer.proofs.Overs.{Written, back, series-room, written-none, written-turn, written-length, written-place, written-fits, written-lent, written-next}
 use Rattle.writer.proofs.Ranges.{array-length, array-fits}
 use Rattle.writer.proofs.Rows.{part-length, part-map, part-row}
 use Rattle.writer.proofs.field.put_rows.Statement.{statement}
 use Rattle.writer.proofs.field.put_rows.Tie as tie
-use Rattle.writer.proofs.field.put_rows.Reads as reads
-use Rattle.writer.proofs.field.put_rows.Lts as lts
-use Rattle.writer.proofs.field.put_row.Reads as put-row-reads
 
 -- the bytes of row i
 abbrev rowAt : List ℕ → List ℕ → ℕ → List ℕ
@@ -86,32 +83,48 @@ part-put-row-end-2 : tie.Need-part-put-row-end-2 Inv-loop μ-loop
 part-put-row-end-2 c = omega (arith, cells-length (c .before .before .before .before .before))
 
 -- row i has room
-room : (c : tie.In-loop Inv-loop μ-loop) → length (series (c .before .loop .i) (rowAt (c .before .before .before .args .t2) (c .before .before .before .args .t3)) ++ rowAt (c .before .before .before .args .t2) (c .before .before .before .args .t3) (c .before .loop .i)) ≤ length (now (c .before .before .before .args .out))
-room c = series-room (c .before .loop .i) 16 (rowAt (c .before .before .before .args .t2) (c .before .before .before .args .t3)) (now (c .before .before .before .args .out)) (c .loop-test .taken) (c .before .loop .inv .1)
+
+abbrev rowsOf : tie.Start Inv-loop μ-loop → ℕ → List ℕ
+rowsOf s = rowAt (s .args .t2) (s .args .t3)
+
+abbrev start : tie.In-loop Inv-loop μ-loop → tie.Start Inv-loop μ-loop
+start c = c .before .before .before
+
+room : (c : tie.In-loop Inv-loop μ-loop)
+    → length (series (c .before .loop .i) (rowsOf (start c)) ++ rowsOf (start c) (c .before .loop .i)) ≤ length (now (start c .args .out))
+room c = series-room (c .before .loop .i) 16 (rowsOf (start c)) (now (start c .args .out)) (c .loop-test .taken) (c .before .loop .inv .1)
 
 put-row-requires : tie.Need-put-row-requires Inv-loop μ-loop
 put-row-requires c κs =
     let s = c .before .before .before .before .before .before in
     let l = c .before .before .before .before .loop in
     let map-is : getD (s .args .t4) (l .i) 0 ≡ cellMap (λ j. getD (s .args .t3) (l .i * 16 + j) 0) =
-        ap (λ (t : List ℕ). getD t (l .i) 0) (s .pre .0) ∙ table-at 16 _ (l .i) (c .before .before .before .loop-test .taken) in
-    (part-length (s .args .t3) (l .i) (cells-length s) (c .before .before .before .loop-test .taken),
-    omega (arith, array-fits w16 16 (s .args .t2) _ (s .good .1 .0) (l .i)),
-    omega (arith, array-fits w16 16 (s .args .t4) _ (s .good .1 .1 .1 .0) (l .i)),
-    map-is ∙ sym (part-map (s .args .t3) (l .i)),
-    rw (part-row (getD (s .args .t2) (l .i) 0) (s .args .t3) (l .i)) (written-lent (l .inv .2) (rowAt (s .args .t2) (s .args .t3) (l .i)) (room (c .before .before .before))))
+    ap (λ (t : List ℕ). getD t (l .i) 0) (s .pre .0) ∙ table-at 16 _ (l .i) (c .before .before .before .loop-test .taken) in (
+      part-length (s .args .t3) (l .i) (cells-length s) (c .before .before .before .loop-test .taken),
+      omega (arith, array-fits w16 16 (s .args .t2) _ (s .good .1 .0) (l .i)),
+      omega (arith, array-fits w16 16 (s .args .t4) _ (s .good .1 .1 .1 .0) (l .i)),
+      map-is ∙ sym (part-map (s .args .t3) (l .i)),
+      rw (part-row (getD (s .args .t2) (l .i) 0) (s .args .t3) (l .i)) (written-lent (l .inv .2) (rowsOf s (l .i)) (room (c .before .before .before))),
+    )
 
 -- one row more
-turn : (c : tie.After-put-row Inv-loop μ-loop) → Written (series (c .before .before .before .before .before .loop .i + 1) (rowAt (c .before .before .before .before .before .before .before .args .t2) (c .before .before .before .before .before .before .before .args .t3))) (now (c .before .before .before .before .before .before .before .args .out)) (back (c .before .before .before .before .before .loop .p) (c .before .before .before .before .before .loop .out) (c .put-row .last .0)) (c .before .before .before .before .before .loop .p + c .put-row .result)
+
+abbrev again : tie.After-put-row Inv-loop μ-loop → tie.In-loop Inv-loop μ-loop
+again c = c .before .before .before .before
+
+turn : (c : tie.After-put-row Inv-loop μ-loop)
+    → Written (series (again c .before .loop .i + 1) (rowsOf (start (again c)))) (now (start (again c) .args .out))
+    (back (again c .before .loop .p) (again c .before .loop .out) (c .put-row .last .0))
+    (again c .before .loop .p + c .put-row .result)
 turn c =
-    let a = c .before .before .before .before .before .before .before .args in
-    let l = c .before .before .before .before .before .loop in
+    let a = start (again c) .args in
+    let l = again c .before .loop in
     let e = part-row (getD (a .t2) (l .i) 0) (a .t3) (l .i) in
-    written-turn (l .i) (rowAt (a .t2) (a .t3))
-    (written-next (l .inv .2) (rowAt (a .t2) (a .t3) (l .i)) _ _ (room (c .before .before .before .before)) (rw e at (c .put-row .ensures .0)) (rw e at (c .put-row .ensures .1)))
+    written-turn (l .i) (rowsOf (start (again c)))
+    (written-next (l .inv .2) (rowsOf (start (again c)) (l .i)) _ _ (room (again c)) (rw e at (c .put-row .ensures .0)) (rw e at (c .put-row .ensures .1)))
 
 add-p : tie.Need-add-p Inv-loop μ-loop
-add-p c = omega (arith, written-place (turn (c .before .before)), written-length (turn (c .before .before)), c .before .before .before .before .before .before .before .before .before .good .0 .0)
+add-p c = written-fits (turn (c .before .before)) (start (again (c .before .before)) .good .0 .0)
 
 add-i : tie.Need-add-i Inv-loop μ-loop
 add-i c = search needs
@@ -130,7 +143,8 @@ unfolding rows
 returns c =
     let l = c .before .loop in
     let e : l .i ≡ 16 = omega arith in
-    let w : Written (series 16 (rowAt (c .before .before .before .args .t2) (c .before .before .before .args .t3))) (now (c .before .before .before .args .out)) (l .out) (l .p) = rw e at (l .inv .2) in
+    let s = c .before .before .before in
+    let w : Written (series 16 (rowsOf s)) (now (s .args .out)) (l .out) (l .p) = rw e at (l .inv .2) in
     (w .is-buffer, w .is-place)
 
 pub put-rows-spec : {M : Type 1} → statement M

@@ -1,6 +1,6 @@
 -- `mark` meets its contract.
 use native.Mathlib.Omega.{arith}
-use mathlib.Core.Path.{sym, ap}
+use mathlib.Core.Path.{sym}
 use Rattle.format.specs.Bytes.{stands}
 use Rattle.format.proofs.Marks.{stands-pos}
 use Rattle.writer.proofs.outline.mark.Statement.{statement}

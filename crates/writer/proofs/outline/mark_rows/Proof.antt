@@ -9,15 +9,11 @@ use Rattle.ledger.specs.Ledgers.{countOf, cellOf}
 use Rattle.ledger.proofs.Tables.{filled-next, is-table}
 use Rattle.format.specs.Bytes.{series, stands}
 use Rattle.format.specs.Table.{cellMap, rowMark, row, rowMap, rows}
-use Rattle.writer.proofs.Outlines.{Marked, marked-start, marked-next, marked-room, mark-le, marked-all}
+use Rattle.writer.proofs.Outlines.{Marked, marked-start, marked-next, marked-small, marked-all}
 use Rattle.writer.proofs.Ranges.{ledger-typed}
 use Rattle.writer.proofs.Rows.{part-map, part-sum, row-stands, rows-next}
 use Rattle.writer.proofs.outline.mark_rows.Statement.{statement}
 use Rattle.writer.proofs.outline.mark_rows.Tie as tie
-use Rattle.writer.proofs.outline.mark_rows.Reads as reads
-use Rattle.writer.proofs.outline.mark_rows.Lts as lts
-use Rattle.writer.proofs.outline.mark.Reads as mark-reads
-use Rattle.writer.proofs.outline.row_marks.Reads as row-marks-reads
 
 abbrev Inv-loop : tie.InvT-loop
 Inv-loop counts all map₀ cells₀ bytes₀ power₀ i₀ map cells bytes power i =
@@ -74,14 +70,11 @@ add-mark c = omega (arith, c .before .before .before .before .before .loop .inv 
 mark-requires : tie.Need-mark-requires Inv-loop μ-loop
 mark-requires c κs = search needs
 
-room : (c : tie.After-mark Inv-loop μ-loop) → (c .before .before .before .before .before .before .loop .map < c .before .before .before .before .before .before .loop .power) × (c .before .before .before .before .before .before .loop .power ≤ 65536) × (c .mark .result * c .before .before .before .before .before .before .loop .power ≤ c .before .before .before .before .before .before .loop .power)
-room c = let r = marked-room (c .before .before .before .before .before .before .loop .inv .0) in (r .0, r .1, mark-le _ _ (c .mark .ensures .1))
-
 mul-map : tie.Need-mul-map Inv-loop μ-loop
-mul-map c = omega (arith, room c)
+mul-map c = omega (arith, marked-small (c .before .before .before .before .before .before .loop .inv .0) (c .mark .result) (c .mark .ensures .1))
 
 add-map : tie.Need-add-map Inv-loop μ-loop
-add-map c = omega (arith, room c)
+add-map c = omega (arith, marked-small (c .before .before .before .before .before .before .loop .inv .0) (c .mark .result) (c .mark .ensures .1))
 
 cast-cells : tie.Need-cast-cells Inv-loop μ-loop
 cast-cells c = search needs
@@ -105,7 +98,7 @@ add-bytes-2 : tie.Need-add-bytes-2 Inv-loop μ-loop
 add-bytes-2 c = omega (arith, c .before .before .before .before .before .before .before .before .loop .inv .4, c .before .before .before .before .before .before .before .before .loop .inv .0 .within, c .before .before .mark .ensures .1, c .before .before .before .before .row-marks .ensures .3)
 
 mul-power : tie.Need-mul-power Inv-loop μ-loop
-mul-power c = omega (arith, room (c .before .before))
+mul-power c = omega (arith, marked-small (c .before .before .before .before .before .before .before .before .loop .inv .0) (c .before .before .mark .result) (c .before .before .mark .ensures .1))
 
 add-i : tie.Need-add-i Inv-loop μ-loop
 add-i c = search needs
@@ -122,14 +115,15 @@ loop-again c =
     let map-is : r .result .map ≡ cellMap (cellOf ledger (l .i)) = r .ensures .0 ∙ part-map (ledger .cells) (l .i) in
     let cells-is : r .result .cells ≡ sum 16 (λ j. stands (cellOf ledger (l .i) j)) = r .ensures .1 ∙ part-sum (ledger .cells) (l .i) in
     let mark-is : m .result ≡ stands (rowMark (countOf ledger (l .i)) (cellOf ledger (l .i))) =
-        m .ensures .0 ∙ ap (λ (x : ℕ). stands (countOf ledger (l .i) + x)) map-is ∙ row-stands _ _ in
-    (marked-next (l .inv .0) (c .before .before .before .before .before .before .before .loop-test .taken) _ mark-is,
-    simp length-set (l .inv .1),
-    filled-next (λ k. cellMap (cellOf ledger k)) (l .cells) (l .i) (r .result .map) (omega (arith, l .inv .1)) (l .inv .2) map-is,
-    rows-next (countOf ledger) (cellOf ledger) (l .i) (l .bytes) _ _ (l .inv .3) mark-is cells-is,
-    omega (arith, l .inv .4, m .ensures .1, r .ensures .3),
-    l .inv .5,
-    l .inv .6)
+    m .ensures .0 ∙ ap (λ (x : ℕ). stands (countOf ledger (l .i) + x)) map-is ∙ row-stands _ _ in (
+      marked-next (l .inv .0) (c .before .before .before .before .before .before .before .loop-test .taken) _ mark-is,
+      simp length-set (l .inv .1),
+      filled-next (λ k. cellMap (cellOf ledger k)) (l .cells) (l .i) (r .result .map) (omega (arith, l .inv .1)) (l .inv .2) map-is,
+      rows-next (countOf ledger) (cellOf ledger) (l .i) (l .bytes) _ _ (l .inv .3) mark-is cells-is,
+      omega (arith, l .inv .4, m .ensures .1, r .ensures .3),
+      l .inv .5,
+      l .inv .6,
+    )
 
 returns : tie.Need-returns Inv-loop μ-loop
 unfolding rowMap rows

@@ -9,10 +9,6 @@ use Rattle.writer.specs.Outlines.{outlineOf, sizeOf}
 use Rattle.writer.proofs.Outlines.{map-sum}
 use Rattle.writer.proofs.outline.measure.Statement.{statement}
 use Rattle.writer.proofs.outline.measure.Tie as tie
-use Rattle.writer.proofs.outline.measure.Reads as reads
-use Rattle.writer.proofs.outline.measure.Lts as lts
-use Rattle.config.proofs.cluster.Config.stamp_bytes.Reads as stamp-bytes-reads
-use Rattle.writer.proofs.outline.mark.Reads as mark-reads
 
 cast-mark : tie.Need-cast-mark
 cast-mark c = search needs

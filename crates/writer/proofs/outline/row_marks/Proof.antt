@@ -1,5 +1,5 @@
 -- `row_marks` meets its contract: after j turns it has the marks of the first j cells.
-use Prim.Native.Nat.{_*_, _-_, _≤_, _<_}
+use Prim.Native.Nat.{_-_, _≤_}
 use native.Mathlib.Omega.{arith}
 use mathlib.Core.Path.{_≡_, refl, _∙_}
 use borrow.Author.Needs.{needs}
@@ -8,12 +8,9 @@ use Rattle.quorums.specs.Sum.{sum}
 use Rattle.quorums.proofs.Sums.{sum-next}
 use Rattle.format.specs.Bytes.{stands}
 use Rattle.format.specs.Table.{cellMap}
-use Rattle.writer.proofs.Outlines.{Marked, marked-start, marked-next, marked-room, mark-le, marked-all}
+use Rattle.writer.proofs.Outlines.{Marked, marked-start, marked-next, marked-small, marked-all}
 use Rattle.writer.proofs.outline.row_marks.Statement.{statement}
 use Rattle.writer.proofs.outline.row_marks.Tie as tie
-use Rattle.writer.proofs.outline.row_marks.Reads as reads
-use Rattle.writer.proofs.outline.row_marks.Lts as lts
-use Rattle.writer.proofs.outline.mark.Reads as mark-reads
 
 abbrev Inv-loop : tie.InvT-loop
 Inv-loop row map₀ cells₀ power₀ j₀ map cells power j = (length row ≡ 16) × Marked j (λ k. getD row k 0) map power × (cells ≡ sum j (λ k. stands (getD row k 0))) × (cells ≤ j)
@@ -37,20 +34,17 @@ cast-mark c = omega (arith, c .shared-slice-known2 .given (c .before .before .lo
 mark-requires : tie.Need-mark-requires Inv-loop μ-loop
 mark-requires c κs = search needs
 
-room : (c : tie.After-mark Inv-loop μ-loop) → (c .before .before .before .loop .map < c .before .before .before .loop .power) × (c .before .before .before .loop .power ≤ 65536) × (c .mark .result * c .before .before .before .loop .power ≤ c .before .before .before .loop .power)
-room c = let r = marked-room (c .before .before .before .loop .inv .1) in (r .0, r .1, mark-le _ _ (c .mark .ensures .1))
-
 mul-map : tie.Need-mul-map Inv-loop μ-loop
-mul-map c = omega (arith, room c)
+mul-map c = omega (arith, marked-small (c .before .before .before .loop .inv .1) (c .mark .result) (c .mark .ensures .1))
 
 add-map : tie.Need-add-map Inv-loop μ-loop
-add-map c = omega (arith, room c)
+add-map c = omega (arith, marked-small (c .before .before .before .loop .inv .1) (c .mark .result) (c .mark .ensures .1))
 
 add-cells : tie.Need-add-cells Inv-loop μ-loop
 add-cells c = search needs
 
 mul-power : tie.Need-mul-power Inv-loop μ-loop
-mul-power c = omega (arith, room c)
+mul-power c = omega (arith, marked-small (c .before .before .before .loop .inv .1) (c .mark .result) (c .mark .ensures .1))
 
 add-j : tie.Need-add-j Inv-loop μ-loop
 add-j c = search needs

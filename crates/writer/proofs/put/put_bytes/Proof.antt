@@ -9,8 +9,6 @@ use borrow.Author.Needs.{needs}
 use Rattle.writer.proofs.Puts.{number-down, number-done}
 use Rattle.writer.proofs.put.put_bytes.Statement.{statement}
 use Rattle.writer.proofs.put.put_bytes.Tie as tie
-use Rattle.writer.proofs.put.put_bytes.Reads as reads
-use Rattle.writer.proofs.put.put_bytes.Lts as lts
 
 abbrev Inv-loop : tie.InvT-loop
 Inv-loop out₀ width x rest₀ k₀ out rest k = (k ≤ width) × (length out ≡ length out₀) × (over (bytes k rest) out ≡ over (bytes width x) out₀)

@@ -10,9 +10,6 @@ use Rattle.writer.proofs.Puts.{number-absent, number-present}
 use borrow.Author.Needs.{needs}
 use Rattle.writer.proofs.put.put_number.Statement.{statement}
 use Rattle.writer.proofs.put.put_number.Tie as tie
-use Rattle.writer.proofs.put.put_number.Reads as reads
-use Rattle.writer.proofs.put.put_number.Lts as lts
-use Rattle.writer.proofs.put.put_bytes.Reads as put-bytes-reads
 
 returns : tie.Need-returns
 returns c =

@@ -11,8 +11,6 @@ use Rattle.writer.proofs.Overs.{over-nothing}
 use Rattle.writer.proofs.Puts.{value-up}
 use Rattle.writer.proofs.put.put_value.Statement.{statement}
 use Rattle.writer.proofs.put.put_value.Tie as tie
-use Rattle.writer.proofs.put.put_value.Reads as reads
-use Rattle.writer.proofs.put.put_value.Lts as lts
 
 abbrev Inv-loop : tie.InvT-loop
 Inv-loop out₀ value k₀ out k = (k ≤ length value) × (length value ≤ length out₀) × (length out ≡ length out₀) × (out ≡ over (take k value) out₀)
