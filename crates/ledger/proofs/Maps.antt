@@ -2,14 +2,14 @@
 use Prim.Native.Nat.{ℕ, zero, suc, _+_, _/_, _%_, _^_, _≤_, _<_}
 use native.Mathlib.Nat.{one-mul, div-eq-of-lt, div-div-eq-div-mul, le-div-iff-mul-le, pow-le-pow-right, lt-of-lt-of-le, div-le-self}
 use native.Mathlib.Omega.{arith}
-use mathlib.Core.Path.{_≡_, sym, ap, ap₂, _∙_}
+use mathlib.Core.Path.{_≡_, sym, ap, _∙_}
 use mathlib.Core.Logic.{⊎-elim}
 use mathlib.Core.Bool.{true, false, cond}
 use borrow.Author.Tests.{eq-eqb, ne-eqb, lt-ltb, le-ltb, ltb-true}
 use lib.Dec.{eqb, ltb}
 use lib.Pow.{pow-pos, pow-add}
 use lib.Count.{ones}
-use Rattle.quorums.specs.Sum.{sum, sumIn, size}
+use Rattle.quorums.specs.Sum.{sumIn, size}
 use Rattle.quorums.proofs.Sums.{sum-same}
 use Rattle.quorums.proofs.Tests.{le-or-lt, both}
 use Rattle.format.specs.Bytes.{bit}

@@ -1,7 +1,7 @@
 -- The zero bits of a byte are those that aren't ones.
 use Prim.Native.Nat.{ℕ, _+_, _-_, _<_}
 use native.Mathlib.Omega.{arith}
-use mathlib.Core.Path.{_≡_, sym, _∙_}
+use mathlib.Core.Path.{_≡_, _∙_}
 use lib.Count.{ones}
 use Rattle.quorums.specs.Sum.{sum}
 use Rattle.quorums.proofs.Sums.{sum-same, sum-add, sum-const}
