@@ -2,7 +2,9 @@
 use Prim.Native.Nat.{_+_, _-_, _*_, _≤_}
 use native.Mathlib.Omega.{arith}
 use mathlib.Core.Path.{_≡_, refl, sym, ap, ap₂, _∙_}
+use mathlib.Core.Bool.{false}
 use borrow.Author.Tests.{le-leb, lt-leb}
+use lib.Dec.{leb}
 use lib.ListN.{length, getD}
 use Rattle.quorums.specs.Sum.{sum}
 use Rattle.quorums.proofs.Sums.{sum-next}
@@ -21,7 +23,7 @@ abbrev μ-loop : tie.MeasureT-loop
 
 returns : tie.Need-returns Inv-loop μ-loop
 unfolding offerAnswer
-returns c = simp (lt-leb _ _ (c .if1 .taken))
+returns c = let over : leb (length (c .before .before .args .block .now)) 64 ≡ false = lt-leb _ _ (c .if1 .taken) in simp over
 
 loop-holds : tie.Need-loop-holds Inv-loop μ-loop
 unfolding sum
