@@ -1,12 +1,13 @@
 -- Maps and their bits: a map of n bits is below 2 ^ n, has the bits that it was made of, and is made of the bits that it has.
 use Prim.Native.Nat.{ℕ, zero, suc, _+_, _-_, _*_, _/_, _%_, _^_, _<_, _≤_}
-use native.Mathlib.Nat.{one-mul, mul-assoc, add-mul-div-right, mod-eq-of-lt, pow-succ', div-eq-of-lt, lt-of-lt-of-le, pow-le-pow-right}
+use native.Mathlib.Nat.{one-mul, div-one, div-div-eq-div-mul, mul-assoc, add-mul-div-right, mod-eq-of-lt, pow-succ', div-eq-of-lt, lt-of-lt-of-le, pow-le-pow-right}
 use native.Mathlib.Omega.{arith}
 use mathlib.Core.Path.{_≡_, refl, sym, ap, ap₂, _∙_}
 use mathlib.Core.Logic.{_⊎_, inl, inr, ⊎-elim}
+use lib.Count.{ones, onesIn, ones-step}
 use lib.Pow.{pow-pos, pow-add, high, mod-pow-add}
 use Rattle.quorums.specs.Sum.{sum}
-use Rattle.quorums.proofs.Sums.{below-suc, sum-same}
+use Rattle.quorums.proofs.Sums.{below-suc, sum-same, sum-front}
 use Rattle.format.specs.Bytes.{stands, marks, bit}
 
 pub stands-le : (x : ℕ) → stands x ≤ 1
@@ -164,3 +165,24 @@ marks-cut (suc n) k f l h =
 pub bit-above : (m n k : ℕ) → m < 2 ^ n → n ≤ k → bit m k ≡ 0
 unfolding bit
 bit-above m n k h l = rw (div-eq-of-lt (lt-of-lt-of-le h (pow-le-pow-right (omega arith) l))) (omega arith)
+
+-- ---- the ones of a number are its bits
+
+pub bit-first : (m : ℕ) → bit m 0 ≡ m % 2
+unfolding bit
+bit-first m = ap (λ x. x % 2) (div-one m)
+
+pub bit-next : (m i : ℕ) → bit m (suc i) ≡ bit (m / 2) i
+unfolding bit
+bit-next m i = ap (λ x. x % 2) (ap (λ x. m / x) (pow-succ' 2 i) ∙ sym (div-div-eq-div-mul m 2 (2 ^ i)))
+
+pub half-below : (k m : ℕ) → m < 2 ^ suc k → m / 2 < 2 ^ k
+half-below k m h = omega (arith, pow-succ' 2 k)
+
+pub ones-bits : (k m : ℕ) → m < 2 ^ k → ones m ≡ sum k (bit m)
+unfolding sum ones onesIn
+ones-bits zero m h = let e : m ≡ 0 = omega arith in rw e
+ones-bits (suc k) m h =
+    ones-step m
+    ∙ ap₂ _+_ (sym (bit-first m)) (ones-bits k (m / 2) (half-below k m h) ∙ sum-same k _ _ (λ i l. sym (bit-next m i)))
+    ∙ sym (sum-front k (bit m))

@@ -1,11 +1,9 @@
 -- The bytes of a sheet rest on its counts and cells below 16 alone: whoever has the same ones, in whatever form, has the same bytes.
 use Prim.Native.Nat.{ℕ, _<_}
-use mathlib.Core.Path.{_≡_, refl, ap, ap₂}
-use mathlib.Core.List.{List, _++_}
-use Rattle.quorums.specs.Sum.{sum}
+use mathlib.Core.Path.{_≡_, refl, ap}
 use Rattle.quorums.proofs.Sums.{sum-same}
 use Rattle.config.specs.declared.cluster.Config.{Config}
-use Rattle.format.specs.Bytes.{number, series, marks}
+use Rattle.format.specs.Bytes.{number}
 use Rattle.format.specs.Table.{cellMap, cells, rowMark, row, rowMap, rows, sheet, Fields, fieldMapOf, encodeFields}
 use Rattle.format.proofs.Lengths.{series-same}
 use Rattle.format.proofs.Marks.{marks-same}

@@ -1,33 +1,24 @@
 -- Maps of servers: a map within n has no bit from n on, and the ones of a number are the servers that it names.
 use Prim.Native.Nat.{ℕ, zero, suc, _+_, _/_, _%_, _^_, _≤_, _<_}
-use native.Mathlib.Nat.{one-mul, div-one, div-eq-of-lt, div-div-eq-div-mul, le-div-iff-mul-le, pow-succ', pow-le-pow-right, lt-of-lt-of-le, div-le-self}
+use native.Mathlib.Nat.{one-mul, div-eq-of-lt, div-div-eq-div-mul, le-div-iff-mul-le, pow-le-pow-right, lt-of-lt-of-le, div-le-self}
 use native.Mathlib.Omega.{arith}
-use mathlib.Core.Path.{_≡_, sym, ap, ap₂, _∙_}
+use mathlib.Core.Path.{_≡_, sym, ap, _∙_}
 use mathlib.Core.Logic.{⊎-elim}
 use mathlib.Core.Bool.{true, false, cond}
 use borrow.Author.Tests.{eq-eqb, ne-eqb, lt-ltb, le-ltb, ltb-true}
 use lib.Dec.{eqb, ltb}
 use lib.Pow.{pow-pos, pow-add}
-use lib.Count.{ones, onesIn, ones-step}
-use Rattle.quorums.specs.Sum.{sum, sumIn, size}
-use Rattle.quorums.proofs.Sums.{sum-same, sum-front}
+use lib.Count.{ones}
+use Rattle.quorums.specs.Sum.{sumIn, size}
+use Rattle.quorums.proofs.Sums.{sum-same}
 use Rattle.quorums.proofs.Tests.{le-or-lt, both}
+use Rattle.format.specs.Bytes.{bit}
+use Rattle.format.proofs.Marks.{bit-first, bit-next, half-below, ones-bits}
 use Rattle.config.specs.Cluster.{validOf}
 use Rattle.config.specs.declared.cluster.Config.{Config}
 use Rattle.ledger.specs.Maps.{named, mapOf}
 
 -- ---- a bit, as a number
-
-bit : ℕ → ℕ → ℕ
-bit m i = m / 2 ^ i % 2
-
-bit-first : (m : ℕ) → bit m 0 ≡ m % 2
-unfolding bit
-bit-first m = ap (λ x. x % 2) (div-one m)
-
-bit-next : (m i : ℕ) → bit m (suc i) ≡ bit (m / 2) i
-unfolding bit
-bit-next m i = ap (λ x. x % 2) (ap (λ x. m / x) (pow-succ' 2 i) ∙ sym (div-div-eq-div-mul m 2 (2 ^ i)))
 
 bit-named : (m i : ℕ) → cond (named m i) 1 0 ≡ bit m i
 unfolding named bit
@@ -38,21 +29,10 @@ bit-named m i =
 
 -- ---- the ones of a map
 
-half-below : (k m : ℕ) → m < 2 ^ suc k → m / 2 < 2 ^ k
-half-below k m h = omega (arith, pow-succ' 2 k)
-
-ones-sum : (k m : ℕ) → m < 2 ^ k → ones m ≡ sum k (bit m)
-unfolding sum ones onesIn
-ones-sum zero m h = let e : m ≡ 0 = omega arith in rw e
-ones-sum (suc k) m h =
-    ones-step m
-    ∙ ap₂ _+_ (sym (bit-first m)) (ones-sum k (m / 2) (half-below k m h) ∙ sum-same k _ _ (λ i l. sym (bit-next m i)))
-    ∙ sym (sum-front k (bit m))
-
 -- the operation for ones counts the servers that a map names
 pub ones-size : (k m : ℕ) → m < 2 ^ k → ones m ≡ size k (named m)
 unfolding size sumIn
-ones-size k m h = ones-sum k m h ∙ sum-same k _ _ (λ i l. sym (bit-named m i))
+ones-size k m h = ones-bits k m h ∙ sum-same k _ _ (λ i l. sym (bit-named m i))
 
 -- ---- bits below n only
 

@@ -1,50 +1,19 @@
 -- A reader at the bytes of a row's cells finds those cells.
-use Prim.Native.Nat.{ℕ, zero, suc, _+_, _*_, _^_, _<_, _≤_}
+use Prim.Native.Nat.{ℕ, zero, suc, _+_, _<_, _≤_}
 use native.Mathlib.Omega.{arith}
-use mathlib.Core.Path.{_≡_, refl, sym, ap, _∙_}
-use mathlib.Core.Bool.{Bool, true, false, cond}
+use mathlib.Core.Path.{_≡_, sym, ap, _∙_}
 use mathlib.Core.List.{List, _++_, append-assoc, append-nil}
-use borrow.Author.Tests.{le-leb, lt-leb}
 use lib.ListN.{length}
-use lib.Dec.{leb}
 use Rattle.format.specs.Bytes.{number, series, stands, bit}
 use Rattle.format.specs.Table.{cells}
-use Rattle.format.proofs.Lengths.{series-next, series-split}
 use Rattle.message.specs.declared.state.Cursor.{Cursor}
-use Rattle.message.specs.Cursors.{within, readNumber}
+use Rattle.message.specs.Cursors.{readNumber}
 use Rattle.message.specs.Scans.{cellsAfter, cellRead}
-use Rattle.message.proofs.Moves.{Stands, behind, stands-behind, move}
-
-pub in-range : (low high x : ℕ) → low ≤ x → x ≤ high → within low high x ≡ true
-unfolding within
-in-range low high x l h = simp (le-leb low x l, le-leb x high h)
-
-pub below-range : (low high x : ℕ) → x < low → within low high x ≡ false
-unfolding within
-below-range low high x l = simp (lt-leb low x l)
-
-pub above-range : (low high x : ℕ) → high < x → within low high x ≡ false
-unfolding within
-above-range low high x l = simp (lt-leb x high l) (same (leb low x))
-  where
-    same : (b : Bool) → cond b false false ≡ false
-    same true = refl
-    same false = refl
+use Rattle.message.proofs.Ahead.{further}
+use Rattle.message.proofs.Moves.{in-range, Stands, behind, stands-behind, move}
 
 cellBytes : (ℕ → ℕ) → ℕ → List ℕ
 cellBytes cell j = number (cell j) 4 (cell j)
-
--- behind one more part of a series
-pub further : (msg pre t : List ℕ) (f : ℕ → List ℕ) (n k : ℕ) → k < n → msg ≡ pre ++ (series n f ++ t)
-    → (r : List ℕ) × (msg ≡ pre ++ series k f ++ (f k ++ r))
-further msg pre t f n k l m =
-    let s = series-split k n f l in (
-      s .0 ++ t,
-      m
-          ∙ ap (λ e. pre ++ (e ++ t)) (s .1)
-          ∙ ap (λ e. pre ++ e) (append-assoc (series k f) (f k ++ s .0) t ∙ ap (λ e. series k f ++ e) (append-assoc (f k) (s .0) t))
-          ∙ sym (append-assoc pre (series k f) (f k ++ (s .0 ++ t))),
-    )
 
 -- What a reader stands before: a cell map with the marks of the cells, which fit, and then their bytes.
 pub record AtCells (msg pre t : List ℕ) (m : ℕ) (cell : ℕ → ℕ) : Type 0 where

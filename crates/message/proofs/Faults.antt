@@ -1,13 +1,13 @@
 -- Reading what was written: every header and value that a call can have is found again where the reader takes its bytes, and the number that
 -- refuses it else is `faultOf`.
-use Prim.Native.Nat.{ℕ, zero, suc, _+_, _-_, _^_, _<_, _≤_}
+use Prim.Native.Nat.{ℕ, suc, _+_, _-_, _<_}
 use native.Mathlib.Omega.{arith}
 use mathlib.Core.Path.{_≡_, refl, sym, ap, ap₂, _∙_}
 use mathlib.Core.Logic.{_⊎_, ⊎-elim}
 use mathlib.Core.Bool.{Bool, true, false, cond}
 use mathlib.Core.List.{List, [], _∷_, _++_, append-assoc, append-nil}
 use borrow.Author.Tests.{ltb-true, ltb-false, eq-eqb}
-use lib.Dec.{eqb, ltb}
+use lib.Dec.{ltb}
 use lib.ListN.{length, getD, take, drop}
 use Rattle.config.specs.Cluster.{validOf}
 use Rattle.config.specs.declared.cluster.Config.{Config}
@@ -23,14 +23,13 @@ use Rattle.message.specs.declared.state.HeadRead.{HeadRead}
 use Rattle.message.specs.declared.state.RegisterRead.{RegisterRead}
 use Rattle.message.specs.declared.state.SheetRead.{SheetRead}
 use Rattle.message.specs.declared.state.Scan.{Scan}
-use Rattle.message.specs.Headers.{fieldsOf, encode, Typed}
+use Rattle.message.specs.Headers.{encode, Typed}
 use Rattle.message.specs.Cursors.{within, readNumber}
 use Rattle.message.specs.Scans.{headOf, registerOf, sheetOf, readNote, endOf, scanOf}
 use Rattle.message.specs.Answers.{check, Decoded, decode}
 use Rattle.message.specs.Faults.{kindFits, registerFits, test, faultOf}
 use Rattle.message.proofs.Stuck.{Stuck, stuck-at, scan-stuck-head, scan-stuck-register, scan-stuck-sheet}
-use Rattle.message.proofs.Moves.{Stands, behind, behind-stands, stands-at, move, require-passes, require-refuses}
-use Rattle.message.proofs.Cells.{in-range}
+use Rattle.message.proofs.Moves.{in-range, Stands, behind, behind-stands, move, require-passes, require-refuses}
 use Rattle.message.proofs.Heads as heads
 use Rattle.message.proofs.Registers as registers
 use Rattle.message.proofs.Sheets as sheets

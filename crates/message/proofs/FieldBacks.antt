@@ -1,8 +1,8 @@
 -- A reader that finds no fault in the head or the register has passed over the bytes of what it found.
-use Prim.Native.Nat.{ℕ, zero, suc, _+_, _-_, _*_, _/_, _%_, _^_, _<_, _≤_, min}
+use Prim.Native.Nat.{ℕ, zero, suc, _+_, _-_, _<_, _≤_, min}
 use native.Mathlib.Omega.{arith}
 use mathlib.Core.Path.{_≡_, refl, sym, ap, ap₂, _∙_}
-use mathlib.Core.Bool.{Bool, true}
+use mathlib.Core.Bool.{true}
 use mathlib.Core.List.{List, [], _++_, append-assoc}
 use lib.ListN.{length, take, drop, length-drop}
 use lib.Seq.{length-take-le}
@@ -14,9 +14,9 @@ use Rattle.format.proofs.Lengths.{number-same}
 use Rattle.format.proofs.Marks.{stands-none, stands-pos, stands-bit, bit-le}
 use Rattle.message.specs.declared.state.Cursor.{Cursor}
 use Rattle.message.specs.Headers.{Bytes}
-use Rattle.message.specs.Cursors.{start, readNumber, skip, require}
-use Rattle.message.specs.Scans.{mapLawful, kindHas, readMap, readKind, headOf, registerOf}
-use Rattle.message.proofs.Sticky.{readNumber-open, require-open, skip-open}
+use Rattle.message.specs.Cursors.{start, readNumber, skip}
+use Rattle.message.specs.Scans.{mapLawful, readMap, readKind, headOf, registerOf}
+use Rattle.message.proofs.Sticky.{readNumber-open, skip-open}
 use Rattle.message.proofs.Backs.{Passed, moved, at, Got, number-got, got-mark, own-mark, skip-got, require-got}
 
 -- What a head without a fault is.

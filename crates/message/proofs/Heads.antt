@@ -1,26 +1,24 @@
 -- A reader at the front of a message's bytes finds the map, kind, server, desk and round, or refuses the kind by 4, the fields that stand by 3,
 -- the server by 4.
-use Prim.Native.Nat.{ℕ, zero, suc, _+_, _-_, _*_, _/_, _%_, _^_, _<_, _≤_}
+use Prim.Native.Nat.{ℕ, zero, suc, _+_, _-_, _%_, _<_, _≤_}
 use native.Mathlib.Omega.{arith}
-use mathlib.Core.Path.{_≡_, refl, sym, ap, ap₂, _∙_}
+use mathlib.Core.Path.{_≡_, refl, sym, ap, _∙_}
 use mathlib.Core.Bool.{Bool, true, false, cond, not}
-use mathlib.Core.List.{List, [], _∷_, _++_, append-assoc}
+use mathlib.Core.List.{List, [], _∷_, _++_}
 use borrow.Author.Tests.{eq-eqb, lt-ltb}
 use lib.Dec.{eqb, eqb·suc-zero}
 use lib.Pow.{mod-pow-add}
-use lib.ListN.{length, getD}
+use lib.ListN.{getD}
 use Rattle.config.specs.declared.cluster.Config.{Config}
-use Rattle.format.specs.Bytes.{number, stands, marks, bit}
+use Rattle.format.specs.Bytes.{number, stands, bit}
 use Rattle.format.specs.Table.{fieldMap, head}
 use Rattle.format.proofs.Marks.{marks-lt, bit-marks}
-use Rattle.message.specs.declared.state.Cursor.{Cursor}
-use Rattle.message.specs.declared.state.HeadRead.{HeadRead}
-use Rattle.message.specs.Cursors.{start, within, readNumber, require}
+use Rattle.message.specs.Cursors.{start, within, readNumber}
 use Rattle.message.specs.Scans.{mapLawful, kindHas, readMap, readKind, headOf}
 use Rattle.message.specs.Faults.{kindFits}
 use Rattle.message.proofs.Stuck.{Stuck, stuck-at, readNumber-stuck, require-stuck}
-use Rattle.message.proofs.Moves.{Stands, behind, behind-stands, move, refuse, require-passes, require-refuses}
-use Rattle.message.proofs.Cells.{in-range, above-range}
+use Rattle.message.proofs.Ahead.{back}
+use Rattle.message.proofs.Moves.{in-range, above-range, behind, behind-stands, move, refuse, require-passes, require-refuses}
 
 -- ---- the map
 
@@ -70,9 +68,6 @@ kind-has kind desk round register rows note =
     flip false false r x = refl
 
 -- ---- the front of a message
-
-back : (msg pre a t : List ℕ) → msg ≡ pre ++ a ++ t → msg ≡ pre ++ (a ++ t)
-back msg pre a t m = m ∙ append-assoc pre a t
 
 -- A reader stands at the front of a message with these fields.
 pub record AtHead (msg t : List ℕ) (kind server desk round register rows note : ℕ) : Type 0 where

@@ -1,9 +1,13 @@
--- Laws: reading and writing undo each other, and the writer's number is the reader's.
+-- Laws. `Faults`: reading undoes writing, and the writer's number is the reader's. `Rounds`: writing undoes reading. `Longest`: 1,111 bytes.
+-- `Parts` is for the call that hands back a value. The others lead there: `Sticky` and `Stuck` say that the first fault stays, `Ahead` to `Registers` go
+-- forwards over bytes that were written, `Backs` to `FieldBacks` back over bytes that were read.
 pub mod Sticky
 pub mod Stuck
 pub mod Parts
+pub mod Ahead
 pub mod Moves
 pub mod Cells
+pub mod GoodRows
 pub mod Rows
 pub mod Sheets
 pub mod Heads

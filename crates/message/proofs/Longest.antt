@@ -30,7 +30,7 @@ use Rattle.message.specs.Faults.{kindFits, registerFits, faultOf}
 use Rattle.message.specs.Cursors.{within}
 use Rattle.message.proofs.Faults.{fault-is-check, taken-told}
 use Rattle.message.proofs.Registers.{fits-good}
-use Rattle.message.proofs.Rows.{own-empty}
+use Rattle.message.proofs.GoodRows.{own-empty}
 use Rattle.message.proofs.Sheets.{good-rows}
 use Rattle.message.proofs.SheetBacks.{table-most}
 use Rattle.message.proofs.Rounds.{encode-decode, decode-typed}

@@ -1,11 +1,11 @@
 -- A cursor moves over the bytes of a number: where the bytes at the cursor are those of x, reading finds x, or refuses it for its range.
-use Prim.Native.Nat.{ℕ, zero, suc, _+_, _*_, _/_, _%_, _^_, _<_, _≤_}
+use Prim.Native.Nat.{ℕ, zero, suc, _+_, _/_, _%_, _^_, _<_, _≤_}
 use native.Mathlib.Nat.{pow-succ'}
 use native.Mathlib.Omega.{arith}
 use mathlib.Core.Path.{_≡_, refl, sym, ap, ap₂, _∙_}
 use mathlib.Core.Bool.{Bool, true, false, cond}
 use mathlib.Core.List.{List, [], _∷_, _++_, append-assoc, append-nil}
-use borrow.Author.Tests.{le-leb}
+use borrow.Author.Tests.{le-leb, lt-leb}
 use lib.ListN.{length, getD, length-append}
 use lib.Seq.{getD-append-add, getD-at}
 use lib.Dec.{eqb, leb}
@@ -35,6 +35,24 @@ stands-at e h = record { none = ap (λ (d : Cursor). d .number) e ∙ h .none; p
 
 pub behind-stands : (pre : List ℕ) (x : ℕ) → Stands (behind pre x) pre
 behind-stands pre x = record { none = refl; place = refl }
+
+-- ---- ranges
+
+pub in-range : (low high x : ℕ) → low ≤ x → x ≤ high → within low high x ≡ true
+unfolding within
+in-range low high x l h = simp (le-leb low x l, le-leb x high h)
+
+pub below-range : (low high x : ℕ) → x < low → within low high x ≡ false
+unfolding within
+below-range low high x l = simp (lt-leb low x l)
+
+pub above-range : (low high x : ℕ) → high < x → within low high x ≡ false
+unfolding within
+above-range low high x l = simp (lt-leb x high l) (same (leb low x))
+  where
+    same : (b : Bool) → cond b false false ≡ false
+    same true = refl
+    same false = refl
 
 -- ---- the bytes of a number are that number
 

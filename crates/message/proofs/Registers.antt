@@ -1,11 +1,11 @@
 -- A reader at the bytes of a register finds its tag and its value where the register is good, and refuses it by 4 where it isn't.
-use Prim.Native.Nat.{ℕ, zero, suc, _+_, _^_, _<_, _≤_, min}
+use Prim.Native.Nat.{ℕ, zero, suc, _+_, _<_, _≤_, min}
 use native.Mathlib.Omega.{arith}
-use mathlib.Core.Path.{_≡_, refl, sym, ap, ap₂, _∙_}
+use mathlib.Core.Path.{_≡_, refl, sym, ap, _∙_}
 use mathlib.Core.Logic.{_⊎_, inl, inr, ⊎-elim}
 use mathlib.Core.Bool.{Bool, true, false, cond}
 use mathlib.Core.List.{List, _++_, append-assoc}
-use borrow.Author.Tests.{eqb-true, eqb-false, leb-true, leb-false, eq-eqb, ne-eqb, le-leb}
+use borrow.Author.Tests.{eqb-true, eqb-false, leb-true, eq-eqb, ne-eqb, le-leb}
 use lib.Dec.{eqb, leb}
 use lib.ListN.{length, take, drop}
 use lib.Seq.{take-append-seam, drop-append-seam}
@@ -15,14 +15,12 @@ use Rattle.config.specs.declared.cluster.Config.{Config}
 use Rattle.format.specs.Bytes.{number, stands}
 use Rattle.format.specs.Table.{registerMark, register}
 use Rattle.message.specs.declared.state.Cursor.{Cursor}
-use Rattle.message.specs.declared.state.RegisterRead.{RegisterRead}
-use Rattle.message.specs.Cursors.{within, readNumber, skip}
+use Rattle.message.specs.Cursors.{readNumber}
 use Rattle.message.specs.Scans.{registerOf}
 use Rattle.message.specs.Faults.{registerFits}
-use Rattle.message.proofs.Stuck.{Stuck, stuck-at, readNumber-stuck, skip-stuck}
-use Rattle.message.proofs.Moves.{Stands, behind, behind-stands, move, refuse, skip-move}
-use Rattle.message.proofs.Cells.{in-range, below-range, above-range}
-use Rattle.message.proofs.Rows.{apart, past}
+use Rattle.message.proofs.Stuck.{Stuck, readNumber-stuck, skip-stuck}
+use Rattle.message.proofs.Ahead.{apart, past}
+use Rattle.message.proofs.Moves.{in-range, below-range, above-range, Stands, behind, behind-stands, move, refuse, skip-move}
 
 positive : (x : ℕ) → (x ≡ 0 → ⊥) → 1 ≤ x
 positive zero h = absurd (h refl)

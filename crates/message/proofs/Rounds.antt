@@ -1,5 +1,5 @@
 -- Writing undoes reading: the bytes of what was found in a message that the reader takes are that message.
-use Prim.Native.Nat.{ℕ, zero, suc, _+_, _-_, _*_, _/_, _%_, _^_, _<_, _≤_}
+use Prim.Native.Nat.{ℕ, zero, suc, _+_, _-_, _%_, _<_, _≤_}
 use native.Mathlib.Omega.{arith}
 use mathlib.Core.Path.{_≡_, refl, sym, ap, ap₂, _∙_}
 use mathlib.Core.Logic.{⊎-elim}
@@ -15,17 +15,16 @@ use Rattle.config.specs.declared.cluster.Config.{Config}
 use Rattle.config.proofs.Clusters.{valid-bounds}
 use Rattle.ledger.specs.declared.ledger.Ledger.{Ledger}
 use Rattle.ledger.specs.Ledgers.{countOf, cellOf}
-use Rattle.format.specs.Bytes.{number, stands, marks, bit}
+use Rattle.format.specs.Bytes.{number, stands, bit}
 use Rattle.format.specs.Table.{registerMark, register, rowMap, sheet, fieldMap, fieldMapOf, head, note, encodeFields}
 use Rattle.format.proofs.Marks.{stands-bit, bit-le, marks-bit, marks-stand}
 use Rattle.message.specs.declared.header.Header.{Header}
 use Rattle.message.specs.declared.state.Cursor.{Cursor}
-use Rattle.message.specs.Headers.{fieldsOf, encode, Bytes, Typed}
-use Rattle.message.specs.Cursors.{readNumber, require}
+use Rattle.message.specs.Headers.{encode, Bytes, Typed}
 use Rattle.message.specs.Scans.{mapLawful, headOf, registerOf, sheetOf, readNote, endOf, scanOf}
 use Rattle.message.specs.Answers.{check, Decoded, decode}
 use Rattle.message.proofs.Sticky.{require-open, register-open, sheet-open, note-open, end-open}
-use Rattle.message.proofs.Backs.{Passed, moved, Got, number-got, got-mark, own-mark, require-got}
+use Rattle.message.proofs.Backs.{Passed, Got, number-got, got-mark, own-mark, require-got}
 use Rattle.message.proofs.FieldBacks.{HeadBack, head-back, RegisterBack, register-back}
 use Rattle.message.proofs.SheetBacks.{SheetBack, sheet-back, ledger-typed}
 

@@ -1,35 +1,31 @@
 -- A reader at the bytes of a row finds that row where it is good, and refuses it by 4 where it isn't.
-use Prim.Native.Nat.{ℕ, zero, suc, _+_, _-_, _*_, _^_, _<_, _≤_}
+use Prim.Native.Nat.{ℕ, _+_, _-_, _^_, _<_, _≤_}
 use native.Mathlib.Omega.{arith}
-use mathlib.Core.Path.{_≡_, refl, sym, ap, ap₂, _∙_}
+use mathlib.Core.Path.{_≡_, refl, sym, ap, _∙_}
 use mathlib.Core.Logic.{_⊎_, inl, inr, ⊎-elim}
-use mathlib.Core.Bool.{Bool, true, false, cond}
+use mathlib.Core.Bool.{Bool, true, false}
 use mathlib.Core.List.{List, _++_, append-assoc}
-use borrow.Author.Tests.{eq-eqb, ne-eqb, lt-leb, le-leb}
-use lib.Dec.{eqb, leb}
+use borrow.Author.Tests.{eq-eqb, ne-eqb}
+use lib.Dec.{eqb}
 use lib.Pow.{pow-pos, pow-mono}
 use lib.ListN.{length}
 use Rattle.quorums.specs.Sum.{sum}
-use Rattle.quorums.proofs.Sums.{sum-same, sum-zero}
+use Rattle.quorums.proofs.Sums.{sum-same}
 use Rattle.quorums.proofs.Tests.{le-or-lt}
 use Rattle.config.specs.declared.cluster.Config.{Config}
 use Rattle.ledger.specs.Checks.{totalFits}
-use Rattle.ledger.proofs.Totals.{Placed, total-fits-told}
 use Rattle.format.specs.Bytes.{number, stands, marks, bit}
 use Rattle.format.specs.Table.{cellMap, cells, rowMark, row}
-use Rattle.format.proofs.Marks.{stands-none, stands-zero, stands-pos, same-stands, marks-lt, marks-stands, marks-cut, bit-marks, bit-above}
+use Rattle.format.proofs.Marks.{stands-none, stands-pos, marks-lt, bit-marks}
 use Rattle.message.specs.declared.state.Cursor.{Cursor}
 use Rattle.message.specs.declared.state.RowRead.{RowRead}
 use Rattle.message.specs.Cursors.{within, readNumber, require}
 use Rattle.message.specs.Scans.{cellsAfter, cellRead, readCount, cellMapOf, rowCells, rowOf}
-use Rattle.message.proofs.Stuck.{Stuck, stuck-at, cells-stuck, require-stuck, row-stuck-map, map-stuck}
-use Rattle.message.proofs.Moves.{Stands, behind, stands-behind, behind-stands, move, refuse, require-passes, require-refuses, stands-at}
-use Rattle.message.proofs.Cells.{in-range, below-range, above-range, AtCells, cells-stand, cells-found}
-
--- The row of giver i in a cluster of n servers is within the paper's ranges.
-pub record RowGood (n i count : ℕ) (cell : ℕ → ℕ) : Type 0 where
-  pub fits : totalFits count (sum 16 cell) ≡ true
-  pub placed : (j : ℕ) → j < 16 → (cell j ≡ 0) ⊎ Placed n i j
+use Rattle.message.proofs.Stuck.{Stuck, stuck-at, require-stuck, row-stuck-map, map-stuck}
+use Rattle.message.proofs.Ahead.{apart, past}
+use Rattle.message.proofs.GoodRows.{RowGood, count-stands, map-of-mark, map-below, own-empty, absent-count, absent-map, placed-cell, absent-good}
+use Rattle.message.proofs.Moves.{in-range, below-range, above-range, Stands, behind, behind-stands, move, refuse, require-passes, require-refuses, stands-at}
+use Rattle.message.proofs.Cells.{AtCells, cells-stand, cells-found}
 
 -- A reader stands before the bytes of a row, which is absent or of a giver below n.
 pub record AtRow (c : Config) (msg pre t : List ℕ) (from : Cursor) (i count : ℕ) (cell : ℕ → ℕ) : Type 0 where
@@ -40,75 +36,6 @@ pub record AtRow (c : Config) (msg pre t : List ℕ) (from : Cursor) (i count : 
   pub cell-fits : (j : ℕ) → cell j ≤ 4294967295
   pub stands-there : Stands from pre
   pub ahead : msg ≡ pre ++ (row count cell ++ t)
-
--- ---- bytes one after the other
-
-pub apart : (msg pre a b t : List ℕ) → msg ≡ pre ++ (a ++ b ++ t) → msg ≡ pre ++ (a ++ (b ++ t))
-apart msg pre a b t m = m ∙ ap (λ l. pre ++ l) (append-assoc a b t)
-
-pub past : (msg pre a t : List ℕ) → msg ≡ pre ++ (a ++ t) → msg ≡ pre ++ a ++ t
-past msg pre a t m = m ∙ sym (append-assoc pre a t)
-
--- ---- what a good row comes to
-
-count-stands : (n i count : ℕ) (cell : ℕ → ℕ) → RowGood n i count cell → 0 < rowMark count cell → 1 ≤ count
-unfolding rowMark
-count-stands n i count cell g p = omega (arith, total-fits-told count (sum 16 cell) (g .fits))
-
-map-stands : (cell : ℕ → ℕ) → 0 < sum 16 cell → 1 ≤ cellMap cell
-unfolding cellMap
-map-stands cell p =
-    ⊎-elim (λ (h : cellMap cell ≤ 0). absurd (omega (arith, same-stands (marks 16 cell) (sum 16 cell) (marks-stands 16 cell) (omega arith))))
-    (λ (h : 0 < cellMap cell). h)
-    (le-or-lt (cellMap cell) 0)
-
-map-of-mark : (n i count : ℕ) (cell : ℕ → ℕ) → RowGood n i count cell → 0 < rowMark count cell → 1 ≤ cellMap cell
-unfolding rowMark
-map-of-mark n i count cell g p = map-stands cell (omega (arith, total-fits-told count (sum 16 cell) (g .fits)))
-
-map-below : (n i count : ℕ) (cell : ℕ → ℕ) → n ≤ 16 → RowGood n i count cell → cellMap cell < 2 ^ n
-unfolding cellMap
-map-below n i count cell s g =
-    let e : marks 16 cell ≡ marks n cell =
-    marks-cut 16 n cell s (λ j a b. ⊎-elim (λ (z : cell j ≡ 0). z) (λ (p : Placed n i j). absurd (omega (arith, p .taker))) (g .placed j b)) in
-    rw e (marks-lt n cell)
-
-pub own-empty : (n i count : ℕ) (cell : ℕ → ℕ) → i < 16 → RowGood n i count cell → cell i ≡ 0
-own-empty n i count cell l g = ⊎-elim (λ (z : cell i ≡ 0). z) (λ (p : Placed n i i). absurd (p .apart refl)) (g .placed i l)
-
--- ---- an absent row
-
-absent-count : (count : ℕ) (cell : ℕ → ℕ) → rowMark count cell ≡ 0 → count ≡ 0
-unfolding rowMark
-absent-count count cell e = omega arith
-
-absent-map : (count : ℕ) (cell : ℕ → ℕ) → rowMark count cell ≡ 0 → cellMap cell ≡ 0
-unfolding rowMark cellMap
-absent-map count cell e = same-stands (sum 16 cell) (marks 16 cell) (sym (marks-stands 16 cell)) (omega arith)
-
--- the cells of a row whose cell map is below 2 ^ n and has no own bit
-placed-cell : (n i : ℕ) (cell : ℕ → ℕ) (j : ℕ) → j < 16 → i < n → cellMap cell < 2 ^ n → cell i ≡ 0 → (cell j ≡ 0) ⊎ Placed n i j
-unfolding cellMap
-placed-cell n i cell j l g b z =
-    ⊎-elim (λ (e : cell j ≤ 0). inl (omega arith))
-    (λ (p : 0 < cell j).
-    ⊎-elim (λ (h : n ≤ j). absurd (omega (arith, bit-marks 16 cell j l, bit-above (marks 16 cell) n j b h, stands-pos (cell j) p)))
-    (λ (h : j < n). inr (record { giver = g; taker = h; apart = λ e. let same : cell i ≡ cell j = ap cell e in omega (arith, same) }))
-    (le-or-lt n j))
-    (le-or-lt (cell j) 0)
-
-absent-cell : (count : ℕ) (cell : ℕ → ℕ) → rowMark count cell ≡ 0 → (j : ℕ) → j < 16 → cell j ≡ 0
-unfolding cellMap
-absent-cell count cell e j l =
-    stands-zero (cell j) (sym (bit-marks 16 cell j l) ∙ ap (λ m. bit m j) (absent-map count cell e) ∙ bit-above 0 0 j (omega arith) (omega arith))
-
-absent-good : (n i count : ℕ) (cell : ℕ → ℕ) → rowMark count cell ≡ 0 → RowGood n i count cell
-unfolding rowMark totalFits
-absent-good n i count cell e =
-    record {
-      fits = let a : count ≡ 0 = omega arith in let b : sum 16 cell ≡ 0 = omega arith in rw (a, b) refl;
-      placed = λ j l. inl (absent-cell count cell e j l);
-    }
 
 -- ---- the steps of a row
 

@@ -4,8 +4,6 @@ use native.Mathlib.Omega.{arith}
 use mathlib.Core.Path.{_≡_, refl, sym, ap, ap₂, _∙_}
 use mathlib.Core.Logic.{⊎-elim}
 use mathlib.Core.List.{List, _++_, append-assoc, append-nil}
-use borrow.Author.Tests.{eqb-true}
-use lib.Dec.{eqb}
 use lib.Pow.{pow-mono}
 use lib.ListN.{length, getD, List·getD-eq-default}
 use Rattle.quorums.specs.Sum.{sum}
@@ -16,15 +14,14 @@ use Rattle.ledger.specs.declared.ledger.Ledger.{Ledger}
 use Rattle.ledger.specs.Ledgers.{countOf, cellOf, Typed}
 use Rattle.ledger.specs.Tables.{table}
 use Rattle.ledger.proofs.Tables.{table-length, table-at}
-use Rattle.format.specs.Bytes.{number, series, stands, marks, bit}
+use Rattle.format.specs.Bytes.{number, series, stands, bit}
 use Rattle.format.specs.Table.{cellMap, cells, rowMark, row, rowMap, rows, sheet}
-use Rattle.format.proofs.Lengths.{number-same, series-same, series-next}
-use Rattle.format.proofs.Marks.{stands-none, stands-pos, stands-zero, stands-bit, stands-same, bit-le, bit-above, marks-bit, marks-stand}
+use Rattle.format.proofs.Lengths.{number-same, series-next}
+use Rattle.format.proofs.Marks.{stands-none, stands-zero, stands-bit, stands-same, bit-le, bit-above, marks-bit, marks-stand}
 use Rattle.format.proofs.Same.{SameSheet, rowMap-same, rows-same}
 use Rattle.message.specs.declared.state.Cursor.{Cursor}
-use Rattle.message.specs.declared.state.RowRead.{RowRead}
 use Rattle.message.specs.Headers.{Bytes}
-use Rattle.message.specs.Cursors.{readNumber, require}
+use Rattle.message.specs.Cursors.{readNumber}
 use Rattle.message.specs.Scans.{cellsAfter, cellRead, readCount, cellMapOf, rowCells, rowOf, rowsAfter, countRead, cellOfRow, ledgerRead, sheetOf}
 use Rattle.message.proofs.Sticky.{readNumber-open, require-open, cells-open, row-open, rows-open}
 use Rattle.message.proofs.Backs.{Passed, moved, at, Got, number-got, number-most, got-mark, own-mark, require-got}

@@ -3,33 +3,32 @@ use Prim.Native.Nat.{ℕ, zero, suc, _+_, _-_, _*_, _/_, _%_, _^_, _<_, _≤_}
 use native.Mathlib.Omega.{arith}
 use mathlib.Core.Path.{_≡_, refl, sym, ap, ap₂, _∙_}
 use mathlib.Core.Logic.{_⊎_, inl, inr, ⊎-elim}
-use mathlib.Core.Bool.{Bool, true, false, cond}
+use mathlib.Core.Bool.{true}
 use mathlib.Core.List.{List, _++_, append-assoc, append-nil}
-use lib.Pow.{pow-pos, pow-mono}
+use lib.Pow.{pow-pos}
 use lib.ListN.{length, getD}
-use Rattle.quorums.specs.Sum.{sum, all}
+use Rattle.quorums.specs.Sum.{sum}
 use Rattle.quorums.proofs.Sums.{all-each, each-all, sum-zero, below-suc}
 use Rattle.quorums.proofs.Tests.{le-or-lt}
 use Rattle.config.specs.declared.cluster.Config.{Config}
 use Rattle.ledger.specs.declared.ledger.Ledger.{Ledger}
 use Rattle.ledger.specs.Ledgers.{countOf, cellOf, givenOf, Typed}
-use Rattle.ledger.specs.Checks.{mayHold, cellFits, rowFits, totalFits, bounded}
-use Rattle.ledger.specs.Tables.{table}
+use Rattle.ledger.specs.Checks.{mayHold, cellFits, rowFits, bounded}
 use Rattle.ledger.proofs.Totals.{Placed, bounded-told, told-bounded, may-hold-told, total-fits-told}
 use Rattle.ledger.proofs.Added.{may-hold-placed}
-use Rattle.ledger.proofs.Tables.{is-table, table-same}
+use Rattle.ledger.proofs.Tables.{is-table}
 use Rattle.format.specs.Bytes.{number, series, stands, marks, bit}
 use Rattle.format.specs.Table.{rowMark, row, rowMap, rows, sheet}
-use Rattle.format.proofs.Marks.{stands-zero, stands-pos, marks-lt, marks-cut, bit-marks, bit-above}
+use Rattle.format.proofs.Marks.{stands-pos, marks-lt, marks-cut, bit-marks, bit-above}
 use Rattle.message.specs.declared.state.Cursor.{Cursor}
-use Rattle.message.specs.declared.state.RowRead.{RowRead}
 use Rattle.message.specs.declared.state.SheetRead.{SheetRead}
 use Rattle.message.specs.Cursors.{readNumber}
 use Rattle.message.specs.Scans.{rowCells, rowOf, rowsAfter, countRead, cellOfRow, ledgerRead, sheetOf}
 use Rattle.message.proofs.Stuck.{Stuck, stuck-at, row-stuck, rows-none, rows-stuck}
-use Rattle.message.proofs.Moves.{Stands, behind, stands-behind, behind-stands, stands-at, move, refuse}
-use Rattle.message.proofs.Cells.{in-range, above-range, further}
-use Rattle.message.proofs.Rows.{RowGood, AtRow, RowFound, row-found, row-decides, apart, past}
+use Rattle.message.proofs.Ahead.{apart, past, further}
+use Rattle.message.proofs.Moves.{in-range, above-range, Stands, behind, stands-at, move, refuse}
+use Rattle.message.proofs.Rows.{AtRow, RowFound, row-found, row-decides}
+use Rattle.message.proofs.GoodRows.{RowGood}
 
 -- ---- a ledger is within bounds exactly where its rows are good
 

@@ -11,7 +11,6 @@ use Rattle.ledger.specs.declared.ledger.Ledger.{Ledger}
 use Rattle.ledger.specs.Checks.{totalFits, aboveFloor}
 use Rattle.ledger.specs.Tables.{table}
 use Rattle.format.specs.Bytes.{bit}
-use Rattle.message.specs.declared.header.Header.{Header}
 use Rattle.message.specs.declared.state.Cursor.{Cursor}
 use Rattle.message.specs.declared.state.HeadRead.{HeadRead}
 use Rattle.message.specs.declared.state.RegisterRead.{RegisterRead}

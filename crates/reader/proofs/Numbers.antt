@@ -6,6 +6,8 @@ use native.Mathlib.Omega.{arith}
 use mathlib.Core.Path.{_≡_}
 use mathlib.Core.List.{List}
 use lib.ListN.{getD}
+use Rattle.config.specs.Cluster.{stampBytes, mostStamp}
+use Rattle.config.specs.declared.cluster.Config.{Config}
 use Rattle.message.specs.Cursors.{numberAt}
 
 -- one byte more
@@ -23,3 +25,12 @@ byte-room k x l h = let p : 256 ^ k ≤ 256 ^ 7 = let l7 : k ≤ 7 = omega arith
 -- a map of at most 16 bits
 pub map-room : (n : ℕ) → n ≤ 16 → 2 ^ n ≤ 65536
 map-room n l = let p : 2 ^ n ≤ 2 ^ 16 = pow-le-pow-right (omega arith) l in p
+
+-- a stamp of any cluster
+pub stamp-width : (c : Config) → stampBytes c ≤ 8
+unfolding stampBytes
+stamp-width c = omega arith
+
+pub stamp-room : (c : Config) → mostStamp c ≤ 4294967295
+unfolding stampBytes mostStamp
+stamp-room c = omega arith

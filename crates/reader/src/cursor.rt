@@ -30,6 +30,13 @@ pub(crate) fn stay(number: u64, cursor: Cursor) -> Cursor
     }
 }
 
+// A byte at a wider type, with its bound.
+fn wide(x: u8) -> u64
+    ensures { λ r. ⌜ (r ≡ x) × (r ≤ 255) ⌝ }
+{
+    x as u64
+}
+
 // The number in the `width` bytes from `at` on.
 pub(crate) fn number_at(msg: &[u8], at: usize, width: usize) -> u64
     requires { ⌜ (at + width ≤ length (now msg)) × (width ≤ 8) ⌝ }
@@ -38,7 +45,7 @@ pub(crate) fn number_at(msg: &[u8], at: usize, width: usize) -> u64
     let mut x: u64 = 0;
     let mut k: usize = 0;
     while k < width {
-        x = x * 256 + (msg[at + k] as u64);
+        x = x * 256 + wide(msg[at + k]);
         k += 1;
     }
     x

@@ -54,11 +54,11 @@ pub fn value(config: Config, msg: &[u8]) -> &[u8]
     if !config.valid() {
         return &msg[..0];
     }
-    let found = scan(config, msg);
-    if found.number != 0 {
+    let part = scan(config, msg);
+    if part.number != 0 {
         return &msg[..0];
     }
-    let from = found.from;
-    let end = from + (found.length as usize);
+    let from = part.from;
+    let end = from + (part.length as usize);
     &msg[from..end]
 }

@@ -1,3 +1,4 @@
--- Cases 7 to 9 of paper 01, and the refusals of the ledger.
+-- Cases 7 to 11 of paper 01, its share in hex, and the refusals of the ledger.
 pub mod Quorums
 pub mod Refusals
+pub mod Messages

@@ -3,8 +3,6 @@ use borrow.Author.Tests.{eq-eqb, ne-eqb}
 use Rattle.message.specs.Answers.{refusalOf}
 use Rattle.message.proofs.answer.refusal.Statement.{statement}
 use Rattle.message.proofs.answer.refusal.Tie as tie
-use Rattle.message.proofs.answer.refusal.Reads as reads
-use Rattle.message.proofs.answer.refusal.Lts as lts
 
 returns : tie.Need-returns
 unfolding refusalOf

@@ -1,14 +1,11 @@
 -- `require` meets its contract, test by test.
 use native.Mathlib.Omega.{arith}
-use mathlib.Core.Path.{_≡_, refl, ap, _∙_}
+use mathlib.Core.Path.{refl}
+use borrow.Author.Needs.{needs}
 use borrow.Author.Tests.{eq-eqb, ne-eqb}
 use Rattle.message.specs.Cursors.{require}
-use borrow.Author.Needs.{needs}
 use Rattle.reader.proofs.cursor.require.Statement.{statement}
 use Rattle.reader.proofs.cursor.require.Tie as tie
-use Rattle.reader.proofs.cursor.require.Reads as reads
-use Rattle.reader.proofs.cursor.require.Lts as lts
-use Rattle.reader.proofs.cursor.stay.Reads as stay-reads
 
 returns : tie.Need-returns
 unfolding require

@@ -1,18 +1,15 @@
 -- `skip` meets its contract, test by test.
 use Prim.Native.Nat.{_+_}
 use native.Mathlib.Omega.{arith}
-use mathlib.Core.Path.{_≡_, refl, ap, _∙_}
-use borrow.Author.Tests.{eq-eqb, ne-eqb, le-leb, lt-leb}
-use Rattle.message.specs.Cursors.{skip}
+use mathlib.Core.Path.{_≡_}
 use mathlib.Core.Bool.{true, false}
+use borrow.Author.Needs.{needs}
+use borrow.Author.Tests.{eq-eqb, ne-eqb, le-leb, lt-leb}
 use lib.Dec.{leb}
 use lib.ListN.{length}
-use borrow.Author.Needs.{needs}
+use Rattle.message.specs.Cursors.{skip}
 use Rattle.reader.proofs.cursor.skip.Statement.{statement}
 use Rattle.reader.proofs.cursor.skip.Tie as tie
-use Rattle.reader.proofs.cursor.skip.Reads as reads
-use Rattle.reader.proofs.cursor.skip.Lts as lts
-use Rattle.reader.proofs.cursor.stay.Reads as stay-reads
 
 returns : tie.Need-returns
 unfolding skip

@@ -1,13 +1,10 @@
 -- `kind_has` meets its contract, test by test.
-use mathlib.Core.Path.{sym, _∙_}
+use mathlib.Core.Path.{sym}
+use borrow.Author.Needs.{needs}
 use borrow.Author.Tests.{eq-eqb, ne-eqb}
 use Rattle.message.specs.Scans.{kindHas}
-use borrow.Author.Needs.{needs}
 use Rattle.reader.proofs.head.kind_has.Statement.{statement}
 use Rattle.reader.proofs.head.kind_has.Tie as tie
-use Rattle.reader.proofs.head.kind_has.Reads as reads
-use Rattle.reader.proofs.head.kind_has.Lts as lts
-use Rattle.reader.proofs.cursor.bit.Reads as bit-reads
 
 bit-requires : tie.Need-bit-requires
 bit-requires c κs = search needs

@@ -1,11 +1,8 @@
 -- `map_lawful` meets its contract, test by test.
 use borrow.Author.Tests.{le-ltb, lt-ltb}
 use Rattle.message.specs.Scans.{mapLawful}
-use borrow.Author.Needs.{needs}
 use Rattle.reader.proofs.head.map_lawful.Statement.{statement}
 use Rattle.reader.proofs.head.map_lawful.Tie as tie
-use Rattle.reader.proofs.head.map_lawful.Reads as reads
-use Rattle.reader.proofs.head.map_lawful.Lts as lts
 
 returns : tie.Need-returns
 unfolding mapLawful

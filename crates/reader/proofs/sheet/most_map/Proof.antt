@@ -1,13 +1,11 @@
 -- `most_map` meets its contract: 2 ^ n is at most 2 ^ 16.
 use native.Mathlib.Omega.{arith}
+use borrow.Author.Needs.{needs}
+use lib.Pow.{pow-pos}
 use Rattle.config.proofs.Clusters.{valid-bounds}
 use Rattle.reader.proofs.Numbers.{map-room}
-use lib.Pow.{pow-pos}
-use borrow.Author.Needs.{needs}
 use Rattle.reader.proofs.sheet.most_map.Statement.{statement}
 use Rattle.reader.proofs.sheet.most_map.Tie as tie
-use Rattle.reader.proofs.sheet.most_map.Reads as reads
-use Rattle.reader.proofs.sheet.most_map.Lts as lts
 
 cast-n : tie.Need-cast-n
 cast-n c = omega (arith, valid-bounds _ (c .before .pre))

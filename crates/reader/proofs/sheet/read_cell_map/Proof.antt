@@ -1,12 +1,12 @@
+-- `read_cell_map` meets its contract: the number, then the test of the giver's own bit.
+use native.Mathlib.Omega.{arith}
+use mathlib.Core.Path.{_≡_}
 use borrow.Author.Needs.{needs}
+use lib.Dec.{eqb}
+use Rattle.message.specs.Cursors.{require}
+use Rattle.message.specs.Scans.{cellMapOf}
 use Rattle.reader.proofs.sheet.read_cell_map.Statement.{statement}
 use Rattle.reader.proofs.sheet.read_cell_map.Tie as tie
-use Rattle.reader.proofs.sheet.read_cell_map.Reads as reads
-use Rattle.reader.proofs.sheet.read_cell_map.Lts as lts
-use Rattle.reader.proofs.cursor.bit.Reads as bit-reads
-use Rattle.reader.proofs.cursor.read_number.Reads as read-number-reads
-use Rattle.reader.proofs.cursor.require.Reads as require-reads
-use Rattle.reader.proofs.sheet.most_map.Reads as most-map-reads
 
 most-map-requires : tie.Need-most-map-requires
 most-map-requires c κs = search needs
@@ -21,7 +21,12 @@ require-requires : tie.Need-require-requires
 require-requires c κs = search needs
 
 returns : tie.Need-returns
-returns c = ?
+unfolding cellMapOf
+returns c =
+    let most = c .before .before .before .most-map .ensures in
+    let number = c .before .before .read-number in
+    let own : c .require .result ≡ require (eqb (c .before .bit .result) 0) 4 (number .result) = c .require .ensures .0 in
+    (rw (← most .0, ← number .ensures .0, ← c .before .bit .ensures .0) own, omega (arith, c .require .ensures, number .ensures))
 
 pub read-cell-map-spec : {M : Type 1} → statement M
 read-cell-map-spec =

@@ -2,9 +2,6 @@
 use borrow.Author.Needs.{needs}
 use Rattle.message.proofs.header.Header.blank.Statement.{statement}
 use Rattle.message.proofs.header.Header.blank.Tie as tie
-use Rattle.message.proofs.header.Header.blank.Reads as reads
-use Rattle.message.proofs.header.Header.blank.Lts as lts
-use Rattle.ledger.proofs.ledger.Ledger.fresh.Reads as fresh-reads
 
 fresh-requires : tie.Need-fresh-requires
 fresh-requires c κs = search needs
