@@ -41,6 +41,14 @@ check-bounds c l r e = by-tests (validOf c) (bounded c l) e
     by-tests false b d = sym d
 
 -- what an answer of `check_floor` tells of a valid cluster
+pub bounds-told : (c : Config) (l : Ledger) → validOf c ≡ true → boundsAnswer c l ≡ Verdict.Accepted → bounded c l ≡ true
+unfolding boundsAnswer
+bounds-told c l v e = chosen-first (bounded c l) _ _ _ (λ d. accepted-not-refused _ (sym d)) (rw v at e) .0
+
+pub bounds-refused : (c : Config) (l : Ledger) (r : Refusal) → validOf c ≡ true → boundsAnswer c l ≡ Verdict.Refused r → bounded c l ≡ false
+unfolding boundsAnswer
+bounds-refused c l r v e = chosen-second (bounded c l) _ _ _ (accepted-not-refused r) (rw v at e)
+
 pub floor-told : (c : Config) (l : Ledger) → validOf c ≡ true → floorAnswer c l ≡ Verdict.Accepted → aboveFloor c l ≡ true
 unfolding floorAnswer
 floor-told c l v e = chosen-first (aboveFloor c l) _ _ _ (λ d. accepted-not-refused _ (sym d)) (rw v at e) .0

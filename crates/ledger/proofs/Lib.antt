@@ -1,4 +1,4 @@
--- Laws. `Totals`, `Majorities`, `Unions`, `Meeting`, `Added`, `Fresh`, `Kept` and `Compared` are for use above; the others serve the functions here.
+-- Laws. `Lines`, `Maps` and `Joins` serve the functions here; the others are for use above too.
 pub mod Lines
 pub mod Maps
 pub mod Answers
@@ -14,3 +14,4 @@ pub mod Compared
 pub mod Fresh
 pub mod Added
 pub mod Meeting
+pub mod Ranges

@@ -1,9 +1,10 @@
 -- Laws. `Faults`: reading undoes writing, and the writer's number is the reader's. `Rounds`: writing undoes reading. `Longest`: 1,111 bytes.
--- `Parts` is for the call that hands back a value. The others lead there: `Sticky` and `Stuck` say that the first fault stays, `Ahead` to `Registers` go
+-- `Parts` is for the call that hands back a value, `Ranges` for what a call knows of a header. The others lead there: `Sticky` and `Stuck` say that the first fault stays, `Ahead` to `Registers` go
 -- forwards over bytes that were written, `Backs` to `FieldBacks` back over bytes that were read.
 pub mod Sticky
 pub mod Stuck
 pub mod Parts
+pub mod Ranges
 pub mod Ahead
 pub mod Moves
 pub mod Cells

@@ -4,7 +4,6 @@ pub mod Overs
 pub mod Puts
 pub mod Faults
 pub mod Outlines
-pub mod Ranges
 pub mod Rows
 pub mod Messages
 pub mod Writes

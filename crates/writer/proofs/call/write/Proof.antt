@@ -15,7 +15,7 @@ use Rattle.message.proofs.Faults.{fault-is-check, taken-told}
 use Rattle.message.proofs.Registers.{fits-good}
 use Rattle.writer.specs.Outlines.{outlineOf, sizeOf}
 use Rattle.writer.proofs.Overs.{lent-length}
-use Rattle.writer.proofs.Ranges.{header-typed}
+use Rattle.message.proofs.Ranges.{header-typed}
 use Rattle.writer.proofs.Messages.{message-length}
 use Rattle.writer.proofs.Writes.{write-refused, write-narrow, write-done}
 use Rattle.writer.proofs.call.write.Statement.{statement}

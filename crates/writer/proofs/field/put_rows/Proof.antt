@@ -11,7 +11,7 @@ use Rattle.ledger.proofs.Tables.{table-at}
 use Rattle.format.specs.Bytes.{series}
 use Rattle.format.specs.Table.{cellMap, row, rows}
 use Rattle.writer.proofs.Overs.{Written, back, series-room, written-none, written-turn, written-length, written-place, written-fits, written-lent, written-next}
-use Rattle.writer.proofs.Ranges.{array-length, array-fits}
+use Rattle.ledger.proofs.Ranges.{array-length, array-fits}
 use Rattle.writer.proofs.Rows.{part-length, part-map, part-row}
 use Rattle.writer.proofs.field.put_rows.Statement.{statement}
 use Rattle.writer.proofs.field.put_rows.Tie as tie

@@ -5,10 +5,9 @@ use borrow.Author.Needs.{needs}
 use borrow.Author.Tests.{not-true, not-false, lt-ltb, le-ltb, le-leb, lt-leb}
 use Rattle.config.specs.Cluster.{validOf}
 use Rattle.ledger.specs.Checks.{bounded, aboveFloor}
-use Rattle.ledger.proofs.Checks.{floor-told, floor-refused}
+use Rattle.ledger.proofs.Checks.{floor-told, floor-refused, bounds-told, bounds-refused}
 use Rattle.message.specs.Cursors.{within}
 use Rattle.message.specs.Faults.{kindFits, registerFits, faultOf}
-use Rattle.writer.proofs.Faults.{bounds-told, bounds-refused}
 use Rattle.writer.proofs.header.fault.Statement.{statement}
 use Rattle.writer.proofs.header.fault.Tie as tie
 

@@ -10,7 +10,7 @@ use Rattle.ledger.proofs.Tables.{filled-next, is-table}
 use Rattle.format.specs.Bytes.{series, stands}
 use Rattle.format.specs.Table.{cellMap, rowMark, row, rowMap, rows}
 use Rattle.writer.proofs.Outlines.{Marked, marked-start, marked-next, marked-small, marked-all}
-use Rattle.writer.proofs.Ranges.{ledger-typed}
+use Rattle.ledger.proofs.Ranges.{ledger-typed}
 use Rattle.writer.proofs.Rows.{part-map, part-sum, row-stands, rows-next}
 use Rattle.writer.proofs.outline.mark_rows.Statement.{statement}
 use Rattle.writer.proofs.outline.mark_rows.Tie as tie

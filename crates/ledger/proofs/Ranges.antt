@@ -1,4 +1,4 @@
--- What a call knows of an argument that is an array, a ledger or a header: arrays have their lengths, and each number fits its type.
+-- What a call knows of an argument that is an array or a ledger: arrays have their lengths, and each number fits its type.
 use Prim.Native.Nat.{ℕ, zero, suc, _^_, _<_}
 use native.Mathlib.Omega.{arith}
 use mathlib.Core.Path.{_≡_, sym, _∙_}
@@ -12,12 +12,9 @@ use denote.Shadow.{shadow}
 use denote.Plain.{UInt}
 use denote.Laws.{Is}
 use denote.Struct.Declared.{row as rowOf}
 use Rattle.ledger.specs.declared.ledger.Ledger.{Ledger}
 use Rattle.ledger.proofs.ledger.Ledger as L
 use Rattle.ledger.specs.Ledgers.{Typed}
-use Rattle.message.specs.declared.header.Header.{Header}
-use Rattle.message.specs.Headers.{Typed as TypedHeader}
-use Rattle.message.proofs.header.Header as H
 
 each-fits : (w : Width) (xs : List ℕ) (us : List Val) → shadow (each ℕ (UInt w .own) xs us) → (k : ℕ) → getD xs k 0 < 2 ^ bits w
 each-fits w [] us h k = pow-pos (bits w)
@@ -46,19 +43,4 @@ ledger-typed l vs h =
       cells-length = field-length w32 256 (l .cells) _ (h .1 .1 .1 .0);
       count-fits = λ i. omega (arith, field-fits w16 16 (l .counts) _ (h .1 .1 .0) i);
       cell-fits = λ k. omega (arith, field-fits w32 256 (l .cells) _ (h .1 .1 .1 .0) k);
-    }
-
-pub header-typed : (h : Header) (v : List ℕ) (vs : List Val) → Is (rowOf H.the-type) h vs → ((k : ℕ) → getD v k 0 < 256) → TypedHeader h v
-header-typed h v vs is bytes =
-    let f = is .1 .1 in
-    record {
-      kind-fits = omega (arith, f .0 .1);
-      server-fits = omega (arith, f .1 .0 .1);
-      desk-fits = omega (arith, f .1 .1 .0 .1);
-      round-fits = omega (arith, f .1 .1 .1 .0 .1);
-      stamp-fits = omega (arith, f .1 .1 .1 .1 .0 .1 .1 .0 .1);
-      tag-desk-fits = omega (arith, f .1 .1 .1 .1 .0 .1 .1 .1 .0 .1);
-      note-fits = omega (arith, f .1 .1 .1 .1 .1 .1 .0 .1);
-      ledger-typed = ledger-typed (h .ledger) _ (f .1 .1 .1 .1 .1 .0);
-      value-bytes = record { byte = bytes };
     }
