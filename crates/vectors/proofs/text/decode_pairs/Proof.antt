@@ -1,0 +1,98 @@
+-- `decode_pairs` is safe and ends: a pair lies within the text, and a byte within the array.
+use Prim.Native.Nat.{_+_, _-_, _≤_}
+use native.Mathlib.Omega.{arith}
+use mathlib.Core.Path.{_≡_}
+use borrow.Author.Needs.{needs}
+use borrow.Author.Tests.{not-false}
+use lib.ListN.{length}
+use Rattle.vectors.proofs.text.decode_pairs.Statement.{statement}
+use Rattle.vectors.proofs.text.decode_pairs.Tie as tie
+
+abbrev Inv-loop : tie.InvT-loop
+Inv-loop text from out₀ at₀ count₀ out at count = (at ≤ length text) × (count ≤ 2048) × (2049 ≡ length out)
+
+abbrev μ-loop : tie.MeasureT-loop
+μ-loop text from out₀ at₀ count₀ out at count = length text - at
+
+loop-holds : tie.Need-loop-holds Inv-loop μ-loop
+loop-holds c = search needs
+
+is-pair-requires : tie.Need-is-pair-requires Inv-loop μ-loop
+is-pair-requires c κs = search needs
+
+same-length : tie.Need-same-length Inv-loop μ-loop
+same-length c = search needs
+
+returns : tie.Need-returns Inv-loop μ-loop
+returns c = search needs
+
+same-length-2 : tie.Need-same-length-2 Inv-loop μ-loop
+same-length-2 c = search needs
+
+returns-2 : tie.Need-returns-2 Inv-loop μ-loop
+returns-2 c = search needs
+
+shared-slice-read-pair : tie.Need-shared-slice-read-pair Inv-loop μ-loop
+shared-slice-read-pair c = search needs
+
+add-pair : tie.Need-add-pair Inv-loop μ-loop
+add-pair c = search needs
+
+-- both digits lie within the text
+within : (c : tie.Else1 Inv-loop μ-loop) → c .before .before .before .loop .at + 2 ≤ length (c .before .before .before .before .before .before .args .text .now)
+within c = c .before .is-pair .ensures (not-false _ (c .if1 .left))
+
+shared-slice-read-pair-2 : tie.Need-shared-slice-read-pair-2 Inv-loop μ-loop
+shared-slice-read-pair-2 c = omega (arith, within (c .before .before .before))
+
+pair-requires : tie.Need-pair-requires Inv-loop μ-loop
+pair-requires c κs = search needs
+
+slice-write-out : tie.Need-slice-write-out Inv-loop μ-loop
+slice-write-out c = search needs
+
+add-count : tie.Need-add-count Inv-loop μ-loop
+add-count c = search needs
+
+add-skip-spaces : tie.Need-add-skip-spaces Inv-loop μ-loop
+add-skip-spaces c = search needs
+
+skip-spaces-requires : tie.Need-skip-spaces-requires Inv-loop μ-loop
+skip-spaces-requires c κs = within (c .before .before .before .before)
+
+loop-less : tie.Need-loop-less Inv-loop μ-loop
+loop-less c = search needs
+
+loop-again : tie.Need-loop-again Inv-loop μ-loop
+loop-again c = search needs
+
+same-length-3 : tie.Need-same-length-3 Inv-loop μ-loop
+same-length-3 c = search needs
+
+returns-3 : tie.Need-returns-3 Inv-loop μ-loop
+returns-3 c = search needs
+
+pub decode-pairs-spec : {M : Type 1} → statement M
+decode-pairs-spec =
+    tie.close
+    (tie.spec
+    Inv-loop
+    μ-loop
+    loop-holds
+    is-pair-requires
+    same-length
+    returns
+    same-length-2
+    returns-2
+    shared-slice-read-pair
+    add-pair
+    shared-slice-read-pair-2
+    pair-requires
+    slice-write-out
+    add-count
+    add-skip-spaces
+    skip-spaces-requires
+    loop-less
+    loop-again
+    same-length-3
+    returns-3)
