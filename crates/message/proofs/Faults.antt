@@ -1,8 +1,7 @@
--- Reading what was written: every header and value that a call can have is found again where the reader takes its bytes, and the number that
--- refuses it else is `faultOf`.
-use Prim.Native.Nat.{ℕ, suc, _+_, _-_, _<_}
+-- Reading what was written, whether the reader takes it or not: its number is `faultOf`.
+use Prim.Native.Nat.{ℕ, _+_, _-_, _<_}
 use native.Mathlib.Omega.{arith}
-use mathlib.Core.Path.{_≡_, refl, sym, ap, ap₂, _∙_}
+use mathlib.Core.Path.{_≡_, refl, sym, ap, _∙_}
 use mathlib.Core.Logic.{_⊎_, ⊎-elim}
 use mathlib.Core.Bool.{Bool, true, false, cond}
 use mathlib.Core.List.{List, [], _∷_, _++_, append-assoc, append-nil}
@@ -26,7 +25,7 @@ use Rattle.message.specs.declared.state.Scan.{Scan}
 use Rattle.message.specs.Headers.{encode, Typed}
 use Rattle.message.specs.Cursors.{within, readNumber}
 use Rattle.message.specs.Scans.{headOf, registerOf, sheetOf, readNote, endOf, scanOf}
-use Rattle.message.specs.Answers.{check, Decoded, decode}
+use Rattle.message.specs.Answers.{check}
 use Rattle.message.specs.Faults.{kindFits, registerFits, test, faultOf}
 use Rattle.message.proofs.Stuck.{Stuck, stuck-at, scan-stuck-head, scan-stuck-register, scan-stuck-sheet}
 use Rattle.message.proofs.Moves.{in-range, Stands, behind, behind-stands, move, require-passes, require-refuses}
@@ -75,7 +74,7 @@ module _ (c : Config) (h : Header) (v : List ℕ) (ty : Typed h v) (valid : vali
       record { kind-fits = ty .kind-fits; server-fits = ty .server-fits; desk-fits = ty .desk-fits; round-fits = ty .round-fits; ahead = ahead-register }
 
   -- the tests of the head are passed
-  record HeadGood : Type 0 where
+  pub record HeadGood : Type 0 where
     pub kind-good : within 1 3 (h .kind) ≡ true
     pub fields-good : kindFits (h .kind) (h .desk) (h .round) (h .note) ≡ true
     pub server-good : h .server < c .n
@@ -222,6 +221,16 @@ module _ (c : Config) (h : Header) (v : List ℕ) (ty : Typed h v) (valid : vali
       })
       (ledger-is b)
 
+  pub header-found : HeadGood → registerFits (h .tag .stamp) (h .tag .desk) (length v) ≡ true → bounded c (h .ledger) ≡ true
+      → scanOf c (encode c h v) .header ≡ h
+  header-found g r b = ap (λ (s : Scan). s .header) (scan-is g r b)
+
+  pub value-found : HeadGood → registerFits (h .tag .stamp) (h .tag .desk) (length v) ≡ true → bounded c (h .ledger) ≡ true
+      → take (scanOf c (encode c h v) .length) (drop (scanOf c (encode c h v) .from) (encode c h v)) ≡ v
+  unfolding valuePlace
+  value-found g r b =
+      ap (λ (s : Scan). take (s .length) (drop (s .from) (encode c h v))) (scan-is g r b) ∙ registers.value-found c _ _ _ _ _ _ v at-register
+
   end-passes : aboveFloor c (h .ledger) ≡ true → endOf c (encode c h v) (h .ledger) noteIs .number ≡ 0
   unfolding endOf noteIs
   end-passes f = rw (require-passes _ 2 noteIs (eq-eqb (length (encode c h v)) (length (encode c h v)) refl), require-passes _ 5 noteIs f) refl
@@ -313,47 +322,3 @@ fault-is-check c h v ty = by-valid (validOf c) refl
         (test (registerFits (h .tag .stamp) (h .tag .desk) (length v)) 4 (test (bounded c (h .ledger)) 4 (test (aboveFloor c (h .ledger)) 5 0))))))
     by-valid true e = number-is c h v ty e
     by-valid false e = refl
-
--- ---- what the writer takes is found again
-
-passed : (b : Bool) (k r : ℕ) → test b (suc k) r ≡ 0 → (b ≡ true) × (r ≡ 0)
-passed true k r e = (refl, e)
-passed false k r e = absurd (omega arith)
-
-found : (c : Config) (h : Header) (v : List ℕ) → Typed h v → faultOf c h (length v) ≡ 0
-    → (scanOf c (encode c h v) .header ≡ h) × (take (scanOf c (encode c h v) .length) (drop (scanOf c (encode c h v) .from) (encode c h v)) ≡ v)
-unfolding faultOf valuePlace
-found c h v ty e =
-    let valid = passed (validOf c) 0 _ e in
-    let kind = passed (within 1 3 (h .kind)) 3 _ (valid .1) in
-    let fields = passed (kindFits (h .kind) (h .desk) (h .round) (h .note)) 2 _ (kind .1) in
-    let server = passed (ltb (h .server) (c .n)) 3 _ (fields .1) in
-    let register = passed (registerFits (h .tag .stamp) (h .tag .desk) (length v)) 3 _ (server .1) in
-    let bounds = passed (bounded c (h .ledger)) 3 _ (register .1) in
-    let is =
-    scan-is c h v ty (valid .0) (record { kind-good = kind .0; fields-good = fields .0; server-good = ltb-true _ _ (server .0) }) (register .0) (bounds .0) in (
-      ap (λ (s : Scan). s .header) is,
-      ap (λ (s : Scan). take (s .length) (drop (s .from) (encode c h v))) is
-          ∙ registers.value-found c _ _ _ _ _ _ v (at-register c h v ty (valid .0)),
-    )
-
--- what the writer takes has a good register, and a ledger within bounds
-pub taken-told : (c : Config) (h : Header) (v : List ℕ) → Typed h v → check c (encode c h v) ≡ 0
-    → (registerFits (h .tag .stamp) (h .tag .desk) (length v) ≡ true) × (bounded c (h .ledger) ≡ true)
-unfolding faultOf
-taken-told c h v ty e =
-    let valid = passed (validOf c) 0 _ (sym (fault-is-check c h v ty) ∙ e) in
-    let kind = passed (within 1 3 (h .kind)) 3 _ (valid .1) in
-    let fields = passed (kindFits (h .kind) (h .desk) (h .round) (h .note)) 2 _ (kind .1) in
-    let server = passed (ltb (h .server) (c .n)) 3 _ (fields .1) in
-    let register = passed (registerFits (h .tag .stamp) (h .tag .desk) (length v)) 3 _ (server .1) in
-    let bounds = passed (bounded c (h .ledger)) 3 _ (register .1) in
-    (register .0, bounds .0)
-
--- reading undoes writing
-pub decode-encode : (c : Config) (h : Header) (v : List ℕ) → Typed h v → check c (encode c h v) ≡ 0
-    → decode c (encode c h v) ≡ record { number = 0; header = h; value = v }
-unfolding decode
-decode-encode c h v ty e =
-    let f = found c h v ty (sym (fault-is-check c h v ty) ∙ e) in
-    simp (eq-eqb (check c (encode c h v)) 0 e) (ap₂ {C = Decoded} (λ x y. record { number = 0; header = x; value = y }) (f .0) (f .1))

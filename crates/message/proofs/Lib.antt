@@ -1,4 +1,4 @@
--- Laws. `Faults`: reading undoes writing, and the writer's number is the reader's. `Rounds`: writing undoes reading. `Longest`: 1,111 bytes.
+-- Laws. `Faults`: the writer's number is the reader's. `Found`: reading undoes writing. `Rounds`: writing undoes reading. `Longest`: 1,111 bytes.
 -- `Parts` is for the call that hands back a value, `Ranges` for what a call knows of a header. The others lead there: `Sticky` and `Stuck` say that the first fault stays, `Ahead` to `Registers` go
 -- forwards over bytes that were written, `Backs` to `FieldBacks` back over bytes that were read.
 pub mod Sticky
@@ -14,6 +14,7 @@ pub mod Sheets
 pub mod Heads
 pub mod Registers
 pub mod Faults
+pub mod Found
 pub mod Backs
 pub mod SheetBacks
 pub mod FieldBacks

@@ -1,16 +1,16 @@
 -- No message that the reader takes is longer than 1,111 bytes, and one is as long.
-use Prim.Native.Nat.{ℕ, zero, suc, _+_, _*_, _/_, _%_, _<_, _≤_, min}
+use Prim.Native.Nat.{ℕ, zero, suc, _+_, _/_, _%_, _<_, _≤_}
 use native.Mathlib.Omega.{arith}
 use mathlib.Core.Path.{_≡_, refl, sym, ap, _∙_}
 use mathlib.Core.Logic.{⊎-elim}
 use mathlib.Core.Bool.{Bool, true, false, cond}
-use mathlib.Core.List.{List, _++_}
+use mathlib.Core.List.{List}
 use lib.Dec.{eqb}
-use lib.ListN.{length, length-append, getD, replicate}
+use lib.ListN.{length, getD, replicate}
 use Rattle.quorums.specs.Sum.{sum, all}
 use Rattle.quorums.specs.Difference.{difference}
 use Rattle.quorums.specs.Accounts.{weight, above}
-use Rattle.quorums.proofs.Sums.{sum-same, sum-le, sum-const, below-suc}
+use Rattle.quorums.proofs.Sums.{sum-le, sum-const, below-suc}
 use Rattle.config.specs.Cluster.{configOf, validOf, startOf, totalOf, aboveOf, stampBytes}
 use Rattle.config.specs.declared.cluster.Config.{Config}
 use Rattle.ledger.specs.declared.ledger.Ledger.{Ledger}
@@ -21,14 +21,16 @@ use Rattle.ledger.specs.Tables.{run, table}
 use Rattle.ledger.proofs.Tables.{table-length}
 use Rattle.format.specs.Bytes.{bytes, number, series, marks, stands}
 use Rattle.format.specs.Table.{registerMark, register, cells, rowMark, cellMap, row, rowMap, rows, sheet, fieldMap, fieldMapOf, head, note, encodeFields}
-use Rattle.format.proofs.Lengths.{bytes-length, number-length, series-length}
+use Rattle.format.proofs.Lengths.{series-length}
+use Rattle.format.proofs.Sizes.{row-length, fields-length}
 use Rattle.format.proofs.Marks.{stands-le, stands-none}
 use Rattle.message.specs.declared.header.Header.{Header}
 use Rattle.message.specs.Headers.{fieldsOf, encode, Bytes, Typed}
 use Rattle.message.specs.Answers.{check, decode}
 use Rattle.message.specs.Faults.{kindFits, registerFits, faultOf}
 use Rattle.message.specs.Cursors.{within}
-use Rattle.message.proofs.Faults.{fault-is-check, taken-told}
+use Rattle.message.proofs.Faults.{fault-is-check}
+use Rattle.message.proofs.Found.{taken-told}
 use Rattle.message.proofs.Registers.{fits-good}
 use Rattle.message.proofs.GoodRows.{own-empty}
 use Rattle.message.proofs.Sheets.{good-rows}
@@ -36,16 +38,6 @@ use Rattle.message.proofs.SheetBacks.{table-most}
 use Rattle.message.proofs.Rounds.{encode-decode, decode-typed}
 
 -- ---- lengths
-
-short-number : (s w x : ℕ) → length (number s w x) ≤ w
-unfolding number
-short-number zero w x = omega arith
-short-number (suc s) w x = omega (arith, bytes-length w x)
-
-sum-times : (n : ℕ) (f : ℕ → ℕ) → sum n (λ j. f j * 4) ≡ sum n f * 4
-unfolding sum
-sum-times zero f = refl
-sum-times (suc n) f = omega (arith, sum-times n f)
 
 -- n marks, one of them 0
 marks-room : (n : ℕ) (f : ℕ → ℕ) (i : ℕ) → i < n → f i ≡ 0 → sum n (λ j. stands (f j)) + 1 ≤ n
@@ -61,83 +53,35 @@ marks-room (suc n) f i l e =
 
 -- a row without an own cell
 row-short : (count i : ℕ) (cell : ℕ → ℕ) → i < 16 → cell i ≡ 0 → length (row count cell) ≤ 64
-unfolding row cells
-row-short count i cell l e =
-    let each : length (series 16 (λ j. number (cell j) 4 (cell j))) ≡ sum 16 (λ j. stands (cell j) * 4) =
-    series-length 16 _ ∙ sum-same 16 _ _ (λ j k. number-length (cell j) 4 (cell j)) in
-    let four : sum 16 (λ j. stands (cell j) * 4) ≡ sum 16 (λ j. stands (cell j)) * 4 = sum-times 16 (λ j. stands (cell j)) in
-    omega (
-      arith,
-      each,
-      four,
-      marks-room 16 cell i l e,
-      length-append (number (rowMark count cell) 2 count ++ number (rowMark count cell) 2 (cellMap cell)) (series 16 (λ j. number (cell j) 4 (cell j))),
-      length-append (number (rowMark count cell) 2 count) (number (rowMark count cell) 2 (cellMap cell)),
-      short-number (rowMark count cell) 2 count,
-      short-number (rowMark count cell) 2 (cellMap cell),
-    )
+row-short count i cell l e = omega (arith, row-length count cell, marks-room 16 cell i l e, stands-le (rowMark count cell))
 
-sheet-short : (c : Config) (l : Ledger) → bounded c l ≡ true → length (sheet (countOf l) (cellOf l)) ≤ 1026
-unfolding sheet rows
-sheet-short c l b =
+rows-short : (c : Config) (l : Ledger) → bounded c l ≡ true → length (rows (countOf l) (cellOf l)) ≤ 1024
+unfolding rows
+rows-short c l b =
     omega (
       arith,
-      length-append (number (rowMap (countOf l) (cellOf l)) 2 (rowMap (countOf l) (cellOf l))) (series 16 (λ i. row (countOf l i) (cellOf l i))),
-      short-number (rowMap (countOf l) (cellOf l)) 2 (rowMap (countOf l) (cellOf l)),
       series-length 16 (λ i. row (countOf l i) (cellOf l i)),
       sum-le 16 (λ i. length (row (countOf l i) (cellOf l i))) (λ i. 64)
           (λ i h. row-short (countOf l i) i (cellOf l i) h (own-empty (c .n) i (countOf l i) (cellOf l i) h (good-rows c l b i h))),
       sum-const 16 64,
     )
 
-register-short : (c : Config) (stamp desk : ℕ) (v : List ℕ) → length v ≤ 64 → length (register c stamp desk v) ≤ 71
-unfolding register stampBytes
-register-short c stamp desk v l =
-    let s : ℕ = registerMark stamp desk (length v) in
-    omega (
-      arith,
-      length-append (number s 4 stamp ++ number s 2 desk ++ number s 1 (min (length v) 255)) v,
-      length-append (number s 4 stamp ++ number s 2 desk) (number s 1 (min (length v) 255)),
-      length-append (number s 4 stamp) (number s 2 desk),
-      short-number s 4 stamp,
-      short-number s 2 desk,
-      short-number s 1 (min (length v) 255),
-    )
-
-head-short : (map kind server desk round : ℕ) → length (head map kind server desk round) ≤ 10
-unfolding head
-head-short map kind server desk round =
-    omega (
-      arith,
-      length-append (number 1 2 map ++ number 1 1 kind ++ number 1 1 server ++ number desk 2 desk) (number round 4 round),
-      length-append (number 1 2 map ++ number 1 1 kind ++ number 1 1 server) (number desk 2 desk),
-      length-append (number 1 2 map ++ number 1 1 kind) (number 1 1 server),
-      length-append (number 1 2 map) (number 1 1 kind),
-      short-number 1 2 map,
-      short-number 1 1 kind,
-      short-number 1 1 server,
-      short-number desk 2 desk,
-      short-number round 4 round,
-    )
-
 -- what the writer takes has at most 1,111 bytes
 pub written-short : (c : Config) (h : Header) (v : List ℕ) → Typed h v → check c (encode c h v) ≡ 0 → length (encode c h v) ≤ 1111
-unfolding encode encodeFields note
+unfolding encode stampBytes
 written-short c h v ty e =
     let t = taken-told c h v ty e in
     let x = fieldsOf h v in
-    let a : List ℕ = head (fieldMapOf x) (h .kind) (h .server) (h .desk) (h .round) in
-    let r : List ℕ = register c (h .tag .stamp) (h .tag .desk) v in
-    let s : List ℕ = sheet (countOf (h .ledger)) (cellOf (h .ledger)) in
     omega (
       arith,
-      length-append (a ++ r ++ s) (number (h .note) 4 (h .note)),
-      length-append (a ++ r) s,
-      length-append a r,
-      head-short (fieldMapOf x) (h .kind) (h .server) (h .desk) (h .round),
-      register-short c (h .tag .stamp) (h .tag .desk) v (fits-good _ _ _ (t .0) .short),
-      sheet-short c (h .ledger) (t .1),
-      short-number (h .note) 4 (h .note),
+      fields-length c x,
+      stands-le (h .desk),
+      stands-le (h .round),
+      stands-le (registerMark (h .tag .stamp) (h .tag .desk) (length v)),
+      stands-le (rowMap (countOf (h .ledger)) (cellOf (h .ledger))),
+      stands-le (h .note),
+      fits-good _ _ _ (t .register-good) .short,
+      rows-short c (h .ledger) (t .ledger-good),
     )
 
 -- and so has what the reader takes

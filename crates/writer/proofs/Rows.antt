@@ -1,5 +1,5 @@
--- Rows as the loops see them: a row is a part of the cells, stands by its count and its cell map, and is so many bytes long.
-use Prim.Native.Nat.{ℕ, zero, suc, _+_, _*_, _-_, _<_}
+-- Rows as the loops see them: a row is a part of the cells, and stands by its count and its cell map.
+use Prim.Native.Nat.{ℕ, _+_, _*_, _-_, _<_}
 use native.Mathlib.Numerals.{add-one}
 use native.Mathlib.Omega.{arith}
 use mathlib.Core.Path.{_≡_, refl, sym, ap, _∙_}
@@ -10,7 +10,9 @@ use Rattle.quorums.specs.Sum.{sum}
 use Rattle.quorums.proofs.Sums.{sum-same}
 use Rattle.format.specs.Bytes.{number, series, stands, marks}
 use Rattle.format.specs.Table.{cellMap, cells, rowMark, row}
-use Rattle.format.proofs.Lengths.{number-length, number-same, series-next, series-same}
+use Rattle.format.proofs.Lengths.{number-same, series-next}
+use Rattle.format.proofs.Same.{row-same}
+use Rattle.format.proofs.Sizes.{row-length}
 use Rattle.format.proofs.Marks.{stands-same, same-stands, marks-stands, marks-same}
 
 -- row i of all cells, as it is lent
@@ -38,20 +40,6 @@ row-stands count cell =
     (λ e. omega (arith, same-stands (marks 16 cell) (sum 16 cell) (marks-stands 16 cell) (omega arith)))
     (λ e. omega (arith, same-stands (sum 16 cell) (marks 16 cell) (sym (marks-stands 16 cell)) (omega arith)))
 
-cells-length : (n : ℕ) (cell : ℕ → ℕ) → length (series n (λ j. number (cell j) 4 (cell j))) ≡ 4 * sum n (λ j. stands (cell j))
-unfolding series sum
-cells-length zero cell = refl
-cells-length (suc n) cell =
-    length-append (series n (λ j. number (cell j) 4 (cell j))) (number (cell n) 4 (cell n))
-    ∙ omega (arith, cells-length n cell, number-length (cell n) 4 (cell n))
-
-row-length : (count : ℕ) (cell : ℕ → ℕ) → length (row count cell) ≡ 4 * stands (rowMark count cell) + 4 * sum 16 (λ j. stands (cell j))
-unfolding row cells
-row-length count cell =
-    let m = rowMark count cell in
-    length-append (number m 2 count ++ number m 2 (cellMap cell)) (series 16 (λ j. number (cell j) 4 (cell j)))
-    ∙ omega (arith, length-append (number m 2 count) (number m 2 (cellMap cell)), number-length m 2 count, number-length m 2 (cellMap cell), cells-length 16 cell)
-
 -- one row more
 pub rows-next : (count : ℕ → ℕ) (cell : ℕ → ℕ → ℕ) (i bytes m n : ℕ) → bytes ≡ length (series i (λ k. row (count k) (cell k)))
     → m ≡ stands (rowMark (count i) (cell i)) → n ≡ sum 16 (λ j. stands (cell i j))
@@ -68,11 +56,5 @@ row-written count map cell e =
     let s : stands (count + map) ≡ stands (rowMark count cell) = rw e (row-stands count cell) in
     rw (number-same (count + map) (rowMark count cell) 2 count s, number-same (count + map) (rowMark count cell) 2 map s, e)
 
--- a row is its count and its 16 cells
-row-same : (count : ℕ) (f g : ℕ → ℕ) → ((j : ℕ) → j < 16 → f j ≡ g j) → row count f ≡ row count g
-unfolding row rowMark cellMap cells
-row-same count f g h =
-    rw (sum-same 16 f g h, marks-same 16 f g h, series-same 16 (λ j. number (f j) 4 (f j)) (λ j. number (g j) 4 (g j)) (λ j l. ap (λ (x : ℕ). number x 4 x) (h j l)))
-
 pub part-row : (count : ℕ) (all : List ℕ) (i : ℕ) → row count (λ j. getD (part all i) j 0) ≡ row count (λ j. getD all (i * 16 + j) 0)
-part-row count all i = row-same count _ _ (part-cell all i)
+part-row count all i = row-same count count _ _ refl (part-cell all i)

@@ -11,7 +11,8 @@ use Rattle.config.specs.declared.answer.Number.{Number}
 use Rattle.format.specs.Table.{fieldMapOf}
 use Rattle.message.specs.Headers.{fieldsOf, encode, Typed}
 use Rattle.message.specs.Answers.{check}
-use Rattle.message.proofs.Faults.{fault-is-check, taken-told}
+use Rattle.message.proofs.Faults.{fault-is-check}
+use Rattle.message.proofs.Found.{taken-told}
 use Rattle.message.proofs.Registers.{fits-good}
 use Rattle.writer.specs.Outlines.{outlineOf, sizeOf}
 use Rattle.writer.proofs.Overs.{lent-length}
@@ -42,7 +43,7 @@ taken : (c : tie.Else1) → number (c .before .before .before .before) ≡ 0
 taken c = found (c .before) ∙ c .if1 .left
 
 short : (c : tie.Else1) → length (now (c .before .before .before .before .args .value)) ≤ 64
-short c = fits-good _ _ _ (taken-told _ _ _ (typed (c .before .before .before)) (taken c) .0) .short
+short c = fits-good _ _ _ (taken-told _ _ _ (typed (c .before .before .before)) (taken c) .register-good) .short
 
 -- the plan has the message's map and size
 
