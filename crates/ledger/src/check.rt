@@ -117,7 +117,7 @@ fn may_hold(n: u64, k: u64, x: u32) -> bool
 }
 
 // Whether a row's total lies from its count to 16,000 times its count.
-fn total_fits(count: u16, total: u64) -> bool
+pub fn total_fits(count: u16, total: u64) -> bool
     ensures { λ r. ⌜ r ≡ totalFits count total ⌝ }
 {
     let c = wide16(count);

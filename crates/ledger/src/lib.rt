@@ -7,6 +7,7 @@ mod ledger;
 mod map;
 mod weight;
 
+pub use check::total_fits;
 pub use ledger::Changed;
 pub use ledger::Ledger;
 pub use map::count_named;

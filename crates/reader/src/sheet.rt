@@ -6,8 +6,8 @@ use super::cursor::read_number;
 use super::cursor::require;
 use super::cursor::stay;
 use config::Config;
-use config::MOST_WEIGHT;
 use ledger::Ledger;
+use ledger::total_fits;
 use message::Cursor;
 use message::RowRead;
 use message::SheetRead;
@@ -17,7 +17,6 @@ ghost use Prim.Native.Nat.{ℕ, _-_, _^_, _≤_, _<_};
 ghost use lib.ListN.{length, replicate};
 ghost use Rattle.quorums.specs.Sum.{sum};
 ghost use Rattle.config.specs.Cluster.{validOf};
-ghost use Rattle.ledger.specs.Checks.{totalFits};
 ghost use Rattle.ledger.specs.Tables.{table};
 ghost use Rattle.message.specs.Scans.{cellsAfter, cellRead, cellMapOf, rowCells, rowOf, rowsAfter, ledgerRead, sheetOf};
 
@@ -34,17 +33,6 @@ pub(crate) fn most_map(config: Config) -> u64
 {
     let n = config.n as u32;
     (1u64 << n) - 1
-}
-
-// Whether a row's total lies from its count to 16,000 times its count.
-pub(crate) fn total_fits(count: u64, total: u64) -> bool
-    requires { ⌜ count ≤ 65535 ⌝ }
-    ensures { λ r. ⌜ r ≡ totalFits count total ⌝ }
-{
-    if total < count {
-        return false;
-    }
-    total <= MOST_WEIGHT * count
 }
 
 // The cells that a cell map marks, into `out`, with their total.
@@ -101,7 +89,7 @@ pub(crate) fn read_row(
     let map = read_cell_map(config, msg, i, stands, count);
     let cells = read_cells(msg, map.x, map, out);
     let end = cells.cursor;
-    let ok = total_fits(count.x, cells.total);
+    let ok = total_fits(count.x as u16, cells.total);
     RowRead {
         count: count.x,
         cursor: require(ok, 4, end),

@@ -32,6 +32,9 @@ read-cell-map-requires c κs = search needs
 read-cells-requires : tie.Need-read-cells-requires
 read-cells-requires c κs = (c .before .read-cell-map .ensures .1, ap length (c .before .before .before .before .before .before .pre .3))
 
+cast-total-fits : tie.Need-cast-total-fits
+cast-total-fits c = search needs
+
 total-fits-requires : tie.Need-total-fits-requires
 total-fits-requires c κs = search needs
 
@@ -44,9 +47,9 @@ same-length c = search needs
 returns-2 : tie.Need-returns-2
 unfolding rowOf readCount
 returns-2 c =
-    let count = c .before .before .before .before .before .before .before .before .read-number .ensures in
-    let map = c .before .before .before .before .before .before .before .read-cell-map .ensures in
-    let cells = c .before .before .before .before .before .read-cells .ensures in
+    let count = c .before .before .before .before .before .before .before .before .before .read-number .ensures in
+    let map = c .before .before .before .before .before .before .before .before .read-cell-map .ensures in
+    let cells = c .before .before .before .before .before .before .read-cells .ensures in
     let fits = c .before .total-fits .ensures in
     let end = c .require .ensures in (
       rw (← count .0, ← map .0, ← cells .1, ← fits, ← cells .0, ← end .0),
@@ -64,6 +67,7 @@ read-row-spec =
     read-number-requires
     read-cell-map-requires
     read-cells-requires
+    cast-total-fits
     total-fits-requires
     require-requires
     same-length
