@@ -76,11 +76,11 @@ module _ (c : Config) (msg pre t : List ℕ) (from : Cursor) (i count : ℕ) (ce
       move msg pre _ from (rowMark count cell) 2 1 65535 count (a .stands-there) ahead-count (omega (arith, a .count-fits)) (absent-count count cell)
       (λ q. in-range 1 65535 count (p q) (a .count-fits))
 
-  private-map : Cursor
-  private-map = readNumber msg (stands (rowMark count cell)) 2 1 (2 ^ c .n - 1) (behind behind-count count)
+  mapRead : Cursor
+  mapRead = readNumber msg (stands (rowMark count cell)) 2 1 (2 ^ c .n - 1) (behind behind-count count)
 
-  map-number : (0 < rowMark count cell → 1 ≤ cellMap cell) → cellMap cell < 2 ^ c .n → private-map ≡ behind behind-map (cellMap cell)
-  unfolding private-map behind-map mapBytes
+  map-number : (0 < rowMark count cell → 1 ≤ cellMap cell) → cellMap cell < 2 ^ c .n → mapRead ≡ behind behind-map (cellMap cell)
+  unfolding mapRead behind-map mapBytes
   map-number p b =
       move msg behind-count _ (behind behind-count count) (rowMark count cell) 2 1 (2 ^ c .n - 1) (cellMap cell) (behind-stands behind-count count)
       ahead-map (omega (arith, b, pow-mono (a .small))) (absent-map count cell)
@@ -92,7 +92,7 @@ module _ (c : Config) (msg pre t : List ℕ) (from : Cursor) (i count : ℕ) (ce
 
   map-read : (0 < rowMark count cell → 1 ≤ cellMap cell) → cellMap cell < 2 ^ c .n → cell i ≡ 0
       → cellMapOf c msg i (stands (rowMark count cell)) (behind behind-count count) ≡ behind behind-map (cellMap cell)
-  unfolding cellMapOf private-map
+  unfolding cellMapOf mapRead
   map-read p b z = rw (map-number p b) (require-passes _ 4 (behind behind-map (cellMap cell)) (own-bit z))
 
   at-cells : AtCells msg behind-map t (cellMap cell) cell
@@ -240,7 +240,7 @@ module _ (c : Config) (msg pre t : List ℕ) (from : Cursor) (i count : ℕ) (ce
 
   own-refused : 0 < rowMark count cell → 1 ≤ count → 1 ≤ cellMap cell → cellMap cell < 2 ^ c .n → 0 < cell i
       → Stuck (rowOf c msg i (stands (rowMark count cell)) from .cursor) 3
-  unfolding cellMapOf private-map
+  unfolding cellMapOf mapRead
   own-refused p q r b z =
       row-stuck-map c msg i _ from 3
       (stuck-at (ap (cellMapOf c msg i (stands (rowMark count cell))) (count-read c msg pre t from i count cell a (λ h. q)))
