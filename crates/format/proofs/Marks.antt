@@ -166,6 +166,10 @@ pub bit-above : (m n k : ℕ) → m < 2 ^ n → n ≤ k → bit m k ≡ 0
 unfolding bit
 bit-above m n k h l = rw (div-eq-of-lt (lt-of-lt-of-le h (pow-le-pow-right (omega arith) l))) (omega arith)
 
+-- and 0 has none
+pub bit-none : (k : ℕ) → bit 0 k ≡ 0
+bit-none k = bit-above 0 0 k (omega arith) (omega arith)
+
 -- ---- the ones of a number are its bits
 
 pub bit-first : (m : ℕ) → bit m 0 ≡ m % 2

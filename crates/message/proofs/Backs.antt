@@ -4,7 +4,7 @@ use native.Mathlib.Omega.{arith}
 use mathlib.Core.Path.{_≡_, refl, sym, ap, ap₂, _∙_}
 use mathlib.Core.Bool.{Bool, true, false, cond}
 use mathlib.Core.List.{List, [], _∷_, _++_, append-nil}
-use borrow.Author.Tests.{leb-true}
+use borrow.Author.Tests.{eqb-true, leb-true}
 use lib.Dec.{eqb, leb, eqb·suc-zero}
 use lib.ListN.{length, getD, take, drop, length-append, length-drop}
 use lib.Seq.{take-suc, take-add, getD-drop, length-take-le}
@@ -63,9 +63,14 @@ unfaulted : (b : Bool) (x y : Cursor) (k : ℕ) → y .number ≡ suc k → cond
 unfaulted true x y k f e = (refl, e)
 unfaulted false x y k f e = absurd (omega (arith, f, e))
 
-absent-is : (msg : List ℕ) (w low high : ℕ) (c : Cursor) → c .number ≡ 0 → readNumber msg 0 w low high c ≡ stay 0 c
+-- a number that doesn't stand leaves the cursor where it is, whatever its number
+pub number-absent : (msg : List ℕ) (w low high : ℕ) (c : Cursor) → readNumber msg 0 w low high c ≡ stay (c .number) c
 unfolding readNumber
-absent-is msg w low high c e = simp e
+number-absent msg w low high c = by-test (eqb (c .number) 0) refl
+  where
+    by-test : (b : Bool) → eqb (c .number) 0 ≡ b → cond b (stay 0 c) (stay (c .number) c) ≡ stay (c .number) c
+    by-test true e = ap (λ (k : ℕ). stay k c) (sym (eqb-true _ _ e))
+    by-test false e = refl
 
 standing-is : (msg : List ℕ) (s w low high : ℕ) (c : Cursor) → c .number ≡ 0 → readNumber msg (suc s) w low high c ≡ readBytes msg w low high c
 unfolding readNumber
@@ -94,9 +99,9 @@ pub number-got : (msg : List ℕ) → Bytes msg → (s w low high : ℕ) (c : Cu
     → Got msg s w low high (readNumber msg s w low high c) pre
 unfolding number
 number-got msg b zero w low high c pre h e =
-    rw (absent-is msg w low high c (h .none))
+    rw (number-absent msg w low high c)
     (record {
-      passed = record { none = refl; place = h .place ∙ ap length (sym (append-nil pre)); there = h .there; taken = h .taken ∙ sym (append-nil pre) };
+      passed = record { none = h .none; place = h .place ∙ ap length (sym (append-nil pre)); there = h .there; taken = h .taken ∙ sym (append-nil pre) };
       absent = λ z. refl;
       low-holds = λ p. absurd (omega arith);
       high-holds = omega arith;

@@ -10,7 +10,7 @@ use Rattle.ledger.specs.Checks.{totalFits}
 use Rattle.ledger.proofs.Totals.{Placed, total-fits-told}
 use Rattle.format.specs.Bytes.{marks, bit}
 use Rattle.format.specs.Table.{cellMap, rowMark}
-use Rattle.format.proofs.Marks.{stands-zero, stands-pos, same-stands, marks-lt, marks-stands, marks-cut, bit-marks, bit-above}
+use Rattle.format.proofs.Marks.{stands-zero, stands-pos, same-stands, marks-lt, marks-stands, marks-cut, bit-marks, bit-above, bit-none}
 
 -- The row of giver i in a cluster of n servers is within the paper's ranges.
 pub record RowGood (n i count : ℕ) (cell : ℕ → ℕ) : Type 0 where
@@ -68,7 +68,7 @@ placed-cell n i cell j l g b z =
 pub absent-cell : (count : ℕ) (cell : ℕ → ℕ) → rowMark count cell ≡ 0 → (j : ℕ) → j < 16 → cell j ≡ 0
 unfolding cellMap
 absent-cell count cell e j l =
-    stands-zero (cell j) (sym (bit-marks 16 cell j l) ∙ ap (λ m. bit m j) (absent-map count cell e) ∙ bit-above 0 0 j (omega arith) (omega arith))
+    stands-zero (cell j) (sym (bit-marks 16 cell j l) ∙ ap (λ m. bit m j) (absent-map count cell e) ∙ bit-none j)
 
 pub absent-good : (n i count : ℕ) (cell : ℕ → ℕ) → rowMark count cell ≡ 0 → RowGood n i count cell
 unfolding rowMark totalFits

@@ -17,7 +17,7 @@ use Rattle.ledger.proofs.Tables.{table-length, table-at}
 use Rattle.format.specs.Bytes.{number, series, stands, bit}
 use Rattle.format.specs.Table.{cellMap, cells, rowMark, row, rowMap, rows, sheet}
 use Rattle.format.proofs.Lengths.{number-same, series-next}
-use Rattle.format.proofs.Marks.{stands-none, stands-zero, stands-bit, stands-same, bit-le, bit-above, marks-bit, marks-stand}
+use Rattle.format.proofs.Marks.{stands-none, stands-zero, stands-bit, stands-same, bit-le, marks-bit, marks-stand, bit-none}
 use Rattle.format.proofs.Same.{SameSheet, rowMap-same, rows-same}
 use Rattle.message.specs.declared.state.Cursor.{Cursor}
 use Rattle.message.specs.Headers.{Bytes}
@@ -139,7 +139,7 @@ module _ (c : Config) (small : c .n ≤ 16) (msg : List ℕ) (b : Bytes msg) (i 
       let none : s ≡ 0 = sym (got-mark msg s 2 65535 count pre s-bit (count-got k)) ∙ ap stands z ∙ stands-none in
       let empty : map .x ≡ 0 = ap (λ (d : Cursor). d .x) (k .map-is) ∙ map-got k .absent none in
       stands-zero _
-      (cell-marks msg b (map .x) map _ (map-passed k) (k .cells-clean) j l ∙ ap (λ m. bit m j) empty ∙ bit-above 0 0 j (omega arith) (omega arith))
+      (cell-marks msg b (map .x) map _ (map-passed k) (k .cells-clean) j l ∙ ap (λ m. bit m j) empty ∙ bit-none j)
 
   mark-back : Clean → stands (rowMark (count .x) cell) ≡ s
   mark-back k = mark-is (count .x) cell (no-cells k) ∙ got-mark msg s 2 65535 count pre s-bit (count-got k)

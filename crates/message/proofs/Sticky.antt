@@ -1,65 +1,49 @@
--- Every step of a reader is sticky: where a number is 0 after a step, it was 0 before it.
+-- Where a number is 0 after a step of a reader, it was 0 before it: a step keeps one that isn't.
 use Prim.Native.Nat.{ℕ, zero, suc}
+use native.Mathlib.Omega.{arith}
 use mathlib.Core.Path.{_≡_, refl}
-use mathlib.Core.Bool.{Bool, true, false, cond}
+use mathlib.Core.Bool.{Bool}
 use mathlib.Core.List.{List}
-use borrow.Author.Tests.{eqb-true}
-use lib.Dec.{eqb}
 use Rattle.config.specs.declared.cluster.Config.{Config}
 use Rattle.ledger.specs.declared.ledger.Ledger.{Ledger}
 use Rattle.message.specs.declared.state.Cursor.{Cursor}
 use Rattle.message.specs.Cursors.{readNumber, skip, require}
-use Rattle.message.specs.Scans.{cellsAfter, cellMapOf, readCount, rowOf, rowsAfter, registerOf, sheetOf, readNote, endOf}
+use Rattle.message.specs.Scans.{cellsAfter, rowOf, rowsAfter, registerOf, sheetOf, readNote, endOf}
+use Rattle.message.proofs.Stuck.{Stuck, readNumber-stuck, skip-stuck, require-stuck, cells-stuck, row-stuck, rows-none, rows-stuck, register-stuck, sheet-stuck, note-stuck, end-stuck}
 
--- a step that goes on only from 0, and else keeps the number n
-sticks : (n : ℕ) (on kept : Cursor) → kept .number ≡ n → cond (eqb n 0) on kept .number ≡ 0 → n ≡ 0
-sticks n on kept same e = by-test (eqb n 0) refl e
+opened : (c d : Cursor) → ((k : ℕ) → Stuck c k → Stuck d k) → d .number ≡ 0 → c .number ≡ 0
+opened c d keeps e = by-number (c .number) refl
   where
-    by-test : (b : Bool) → eqb n 0 ≡ b → cond b on kept .number ≡ 0 → n ≡ 0
-    by-test true t d = eqb-true n 0 t
-    by-test false t d = cc
+    by-number : (n : ℕ) → c .number ≡ n → c .number ≡ 0
+    by-number zero t = t
+    by-number (suc k) t = absurd (omega (arith, keeps k (record { has = t }) .has, e))
 
 pub readNumber-open : (msg : List ℕ) (s w low high : ℕ) (c : Cursor) → readNumber msg s w low high c .number ≡ 0 → c .number ≡ 0
-unfolding readNumber
-readNumber-open msg s w low high c e = sticks _ _ _ refl e
+readNumber-open msg s w low high c e = opened c _ (readNumber-stuck msg s w low high c) e
 
 pub skip-open : (msg : List ℕ) (w : ℕ) (c : Cursor) → skip msg w c .number ≡ 0 → c .number ≡ 0
-unfolding skip
-skip-open msg w c e = sticks _ _ _ refl e
+skip-open msg w c e = opened c _ (skip-stuck msg w c) e
 
 pub require-open : (ok : Bool) (k : ℕ) (c : Cursor) → require ok k c .number ≡ 0 → c .number ≡ 0
-unfolding require
-require-open ok k c e = sticks _ _ _ refl e
+require-open ok k c e = opened c _ (require-stuck ok k c) e
 
 pub cells-open : (msg : List ℕ) (m : ℕ) (c : Cursor) (j : ℕ) → cellsAfter msg m c j .number ≡ 0 → c .number ≡ 0
-unfolding cellsAfter
-cells-open msg m c zero e = e
-cells-open msg m c (suc j) e = cells-open msg m c j (readNumber-open msg _ _ _ _ _ e)
+cells-open msg m c j e = opened c _ (λ k h. cells-stuck msg m c k h j) e
 
 pub row-open : (c : Config) (msg : List ℕ) (i s : ℕ) (from : Cursor) → rowOf c msg i s from .cursor .number ≡ 0 → from .number ≡ 0
-unfolding rowOf readCount cellMapOf
-row-open c msg i s from e =
-    readNumber-open msg _ _ _ _ from
-    (readNumber-open msg _ _ _ _ _ (require-open _ _ _ (cells-open msg _ _ 16 (require-open _ _ _ e))))
+row-open c msg i s from e = opened from _ (row-stuck c msg i s from) e
 
 pub rows-open : (c : Config) (msg : List ℕ) (m : ℕ) (from : Cursor) (i : ℕ) → rowsAfter c msg m from i .number ≡ 0 → from .number ≡ 0
-unfolding rowsAfter
-rows-open c msg m from zero e = e
-rows-open c msg m from (suc i) e = rows-open c msg m from i (row-open c msg i _ _ e)
+rows-open c msg m from i e = opened from _ (λ k h. rows-stuck c msg m from k 0 i (omega arith) (rows-none c msg m from k h)) e
 
 pub register-open : (c : Config) (msg : List ℕ) (s : ℕ) (from : Cursor) → registerOf c msg s from .cursor .number ≡ 0 → from .number ≡ 0
-unfolding registerOf
-register-open c msg s from e =
-    readNumber-open msg _ _ _ _ from (readNumber-open msg _ _ _ _ _ (readNumber-open msg _ _ _ _ _ (skip-open msg _ _ e)))
+register-open c msg s from e = opened from _ (register-stuck c msg s from) e
 
 pub sheet-open : (c : Config) (msg : List ℕ) (s : ℕ) (from : Cursor) → sheetOf c msg s from .cursor .number ≡ 0 → from .number ≡ 0
-unfolding sheetOf
-sheet-open c msg s from e = readNumber-open msg _ _ _ _ from (rows-open c msg _ _ 16 e)
+sheet-open c msg s from e = opened from _ (sheet-stuck c msg s from) e
 
 pub note-open : (msg : List ℕ) (s : ℕ) (from : Cursor) → readNote msg s from .number ≡ 0 → from .number ≡ 0
-unfolding readNote
-note-open msg s from e = readNumber-open msg _ _ _ _ from e
+note-open msg s from e = opened from _ (note-stuck msg s from) e
 
 pub end-open : (c : Config) (msg : List ℕ) (l : Ledger) (note : Cursor) → endOf c msg l note .number ≡ 0 → note .number ≡ 0
-unfolding endOf
-end-open c msg l note e = require-open _ _ note (require-open _ _ _ e)
+end-open c msg l note e = opened note _ (end-stuck c msg l note) e

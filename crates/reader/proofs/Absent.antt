@@ -1,45 +1,27 @@
 -- A row that doesn't stand: nothing is read, so its count and cells are 0 and the cursor stays.
-use Prim.Native.Nat.{ℕ, zero, suc, _^_}
-use native.Mathlib.Nat.{zero-div}
+use Prim.Native.Nat.{ℕ, zero, suc}
 use mathlib.Core.Path.{_≡_, refl, sym, ap, _∙_}
-use mathlib.Core.Bool.{Bool, true, false, cond}
+use mathlib.Core.Bool.{true}
 use mathlib.Core.List.{List}
-use borrow.Author.Tests.{eqb-true}
-use lib.Dec.{eqb}
 use lib.ListN.{replicate, getD-replicate}
 use Rattle.quorums.proofs.Sums.{sum-zero}
 use Rattle.config.specs.declared.cluster.Config.{Config}
 use Rattle.ledger.specs.Checks.{totalFits}
 use Rattle.ledger.specs.Tables.{table}
 use Rattle.ledger.proofs.Tables.{is-table}
-use Rattle.format.specs.Bytes.{bit}
+use Rattle.format.proofs.Marks.{bit-none}
 use Rattle.message.specs.declared.state.Cursor.{Cursor}
-use Rattle.message.specs.Cursors.{stay, readNumber, require}
+use Rattle.message.specs.Cursors.{stay, require}
 use Rattle.message.specs.Scans.{cellsAfter, cellRead, readCount, cellMapOf, rowCells, rowOf}
-
-number-absent : (msg : List ℕ) (w low high : ℕ) (c : Cursor) → readNumber msg 0 w low high c ≡ stay (c .number) c
-unfolding readNumber
-number-absent msg w low high c = by-test (eqb (c .number) 0) refl
-  where
-    by-test : (b : Bool) → eqb (c .number) 0 ≡ b → cond b (stay 0 c) (stay (c .number) c) ≡ stay (c .number) c
-    by-test true e = ap (λ (k : ℕ). stay k c) (sym (eqb-true _ _ e))
-    by-test false e = refl
-
-passed : (k : ℕ) (c : Cursor) → require true k c ≡ c
-unfolding require
-passed k c = by-test (eqb (c .number) 0)
-  where
-    by-test : (b : Bool) → cond b c c ≡ c
-    by-test true = refl
-    by-test false = refl
-
-no-bit : (k : ℕ) → bit 0 k ≡ 0
-unfolding bit
-no-bit k = rw (zero-div (2 ^ k))
+use Rattle.message.proofs.Moves.{require-passes}
+use Rattle.message.proofs.Backs.{number-absent}
 
 -- the cursor from which every step of an absent row stays
 abbrev still : Cursor → Cursor
 still from = stay (from .number) from
+
+passes : (k : ℕ) (c : Cursor) → require true k c ≡ c
+passes k c = require-passes true k c refl
 
 count-absent : (msg : List ℕ) (from : Cursor) → readCount msg 0 from ≡ still from
 unfolding readCount
@@ -47,12 +29,12 @@ count-absent msg from = number-absent msg 2 1 65535 from
 
 map-absent : (c : Config) (msg : List ℕ) (i : ℕ) (from : Cursor) → cellMapOf c msg i 0 (readCount msg 0 from) ≡ still from
 unfolding cellMapOf readCount
-map-absent c msg i from = simp (number-absent, no-bit, passed)
+map-absent c msg i from = simp (number-absent, bit-none, passes)
 
 cells-absent : (msg : List ℕ) (from : Cursor) (j : ℕ) → cellsAfter msg 0 (still from) j ≡ still from
 unfolding cellsAfter
 cells-absent msg from zero = refl
-cells-absent msg from (suc j) = rw (cells-absent msg from j, no-bit j) (number-absent msg _ _ _ (still from))
+cells-absent msg from (suc j) = rw (cells-absent msg from j, bit-none j) (number-absent msg _ _ _ (still from))
 
 cell-absent : (msg : List ℕ) (from : Cursor) (j : ℕ) → cellRead msg 0 (still from) j ≡ 0
 unfolding cellRead
@@ -71,7 +53,7 @@ row-absent c msg i from =
       sum-zero 16 (cellRead msg 0 (still from)) (λ j l. cell-absent msg from j),
       fits-absent,
       cells-absent msg from 16,
-      passed 4 (still from),
+      passes 4 (still from),
     )
 
 row-cell-absent : (c : Config) (msg : List ℕ) (i : ℕ) (from : Cursor) (j : ℕ) → rowCells c msg i 0 from j ≡ 0

@@ -1,4 +1,4 @@
--- Numbers as bytes and maps as bits: one byte more, and what fits.
+-- Numbers as bytes: one byte more, and what fits.
 use Prim.Native.Nat.{ℕ, _+_, _*_, _^_, _≤_, _<_}
 use native.Mathlib.Nat.{pow-le-pow-right}
 use native.Mathlib.Numerals.{add-one}
@@ -21,10 +21,6 @@ byte-more k x b h l = rw add-one (omega arith)
 -- a number of fewer than 8 bytes has room for one more
 pub byte-room : (k x : ℕ) → k < 8 → x < 256 ^ k → x < 72057594037927936
 byte-room k x l h = let p : 256 ^ k ≤ 256 ^ 7 = let l7 : k ≤ 7 = omega arith in pow-le-pow-right (omega arith) l7 in omega arith
-
--- a map of at most 16 bits
-pub map-room : (n : ℕ) → n ≤ 16 → 2 ^ n ≤ 65536
-map-room n l = let p : 2 ^ n ≤ 2 ^ 16 = pow-le-pow-right (omega arith) l in p
 
 -- a stamp of any cluster
 pub stamp-width : (c : Config) → stampBytes c ≤ 8

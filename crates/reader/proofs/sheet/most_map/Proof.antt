@@ -1,9 +1,8 @@
 -- `most_map` meets its contract: 2 ^ n is at most 2 ^ 16.
 use native.Mathlib.Omega.{arith}
 use borrow.Author.Needs.{needs}
-use lib.Pow.{pow-pos}
+use lib.Pow.{pow-pos, pow-mono}
 use Rattle.config.proofs.Clusters.{valid-bounds}
-use Rattle.reader.proofs.Numbers.{map-room}
 use Rattle.reader.proofs.sheet.most_map.Statement.{statement}
 use Rattle.reader.proofs.sheet.most_map.Tie as tie
 
@@ -17,10 +16,10 @@ shl-result : tie.Need-shl-result
 shl-result c = omega (arith, valid-bounds _ (c .before .pre))
 
 sub-result : tie.Need-sub-result
-sub-result c = omega (arith, map-room _ (valid-bounds _ (c .before .pre) .most), pow-pos (c .before .args .config .n))
+sub-result c = omega (arith, pow-mono (valid-bounds _ (c .before .pre) .most), pow-pos (c .before .args .config .n))
 
 returns : tie.Need-returns
-returns c = omega (arith, map-room _ (valid-bounds _ (c .before .pre) .most))
+returns c = omega (arith, pow-mono (valid-bounds _ (c .before .pre) .most))
 
 pub most-map-spec : {M : Type 1} → statement M
 most-map-spec = tie.close (tie.spec cast-n cast-result shl-result sub-result returns)

@@ -1,0 +1,112 @@
+-- The reader gives no number but 1 to 5, so that a verdict has the number that the check found.
+use Prim.Native.Nat.{ℕ, zero, suc, _+_, _<_, _≤_}
+use native.Mathlib.Omega.{arith}
+use mathlib.Core.Path.{_≡_, refl}
+use mathlib.Core.Bool.{Bool, true, false, cond}
+use mathlib.Core.List.{List}
+use borrow.Author.Tests.{eq-eqb, ne-eqb}
+use lib.Dec.{eqb, leb}
+use lib.ListN.{length}
+use Rattle.config.specs.Cluster.{validOf}
+use Rattle.config.specs.Refusals.{numberOf}
+use Rattle.config.specs.declared.cluster.Config.{Config}
+use Rattle.config.specs.declared.answer.Verdict.{Verdict}
+use Rattle.message.specs.declared.state.Cursor.{Cursor}
+use Rattle.message.specs.Cursors.{start, numberAt, within, readBytes, readNumber, skip, require}
+use Rattle.message.specs.Scans.{cellsAfter, readCount, cellMapOf, rowOf, rowsAfter, readMap, readKind, headOf, registerOf, sheetOf, readNote, endOf, scanOf}
+use Rattle.message.specs.Answers.{check, refusalOf, verdictOf, checkAnswer}
+
+either : (b : Bool) (x y : Cursor) → x .number ≤ 5 → y .number ≤ 5 → cond b x y .number ≤ 5
+either true x y p q = p
+either false x y p q = q
+
+-- ---- the steps
+
+bytes-most : (msg : List ℕ) (w low high : ℕ) (c : Cursor) → readBytes msg w low high c .number ≤ 5
+unfolding readBytes
+bytes-most msg w low high c =
+    either (leb (c .at + w) (length msg)) _ _ (either (within low high (numberAt msg (c .at) w)) _ _ (omega arith) (omega arith)) (omega arith)
+
+number-most : (msg : List ℕ) (s w low high : ℕ) (c : Cursor) → c .number ≤ 5 → readNumber msg s w low high c .number ≤ 5
+unfolding readNumber
+number-most msg s w low high c h = either (eqb (c .number) 0) _ _ (either (eqb s 0) _ _ (omega arith) (bytes-most msg w low high c)) h
+
+skip-most : (msg : List ℕ) (w : ℕ) (c : Cursor) → c .number ≤ 5 → skip msg w c .number ≤ 5
+unfolding skip
+skip-most msg w c h = either (eqb (c .number) 0) _ _ (either (leb (c .at + w) (length msg)) _ _ (omega arith) (omega arith)) h
+
+require-most : (ok : Bool) (k : ℕ) (c : Cursor) → k ≤ 5 → c .number ≤ 5 → require ok k c .number ≤ 5
+unfolding require
+require-most ok k c l h = either (eqb (c .number) 0) _ _ (either ok _ _ h l) h
+
+-- ---- the parts of a message
+
+cells-most : (msg : List ℕ) (m : ℕ) (c : Cursor) → c .number ≤ 5 → (j : ℕ) → cellsAfter msg m c j .number ≤ 5
+unfolding cellsAfter
+cells-most msg m c h zero = h
+cells-most msg m c h (suc j) = number-most msg _ _ _ _ _ (cells-most msg m c h j)
+
+row-most : (c : Config) (msg : List ℕ) (i s : ℕ) (from : Cursor) → from .number ≤ 5 → rowOf c msg i s from .cursor .number ≤ 5
+unfolding rowOf cellMapOf readCount
+row-most c msg i s from h =
+    require-most _ 4 _ (omega arith)
+    (cells-most msg _ _ (require-most _ 4 _ (omega arith) (number-most msg _ _ _ _ _ (number-most msg _ _ _ _ _ h))) 16)
+
+rows-most : (c : Config) (msg : List ℕ) (m : ℕ) (from : Cursor) → from .number ≤ 5 → (i : ℕ) → rowsAfter c msg m from i .number ≤ 5
+unfolding rowsAfter
+rows-most c msg m from h zero = h
+rows-most c msg m from h (suc i) = row-most c msg i _ _ (rows-most c msg m from h i)
+
+head-most : (c : Config) (msg : List ℕ) → headOf c msg .cursor .number ≤ 5
+unfolding headOf readKind readMap
+head-most c msg =
+    number-most msg _ _ _ _ _
+    (number-most msg _ _ _ _ _
+    (number-most msg _ _ _ _ _
+    (require-most _ 3 _ (omega arith) (number-most msg _ _ _ _ _ (require-most _ 3 _ (omega arith) (number-most msg _ _ _ _ start (omega arith)))))))
+
+register-most : (c : Config) (msg : List ℕ) (s : ℕ) (from : Cursor) → from .number ≤ 5 → registerOf c msg s from .cursor .number ≤ 5
+unfolding registerOf
+register-most c msg s from h = skip-most msg _ _ (number-most msg _ _ _ _ _ (number-most msg _ _ _ _ _ (number-most msg _ _ _ _ _ h)))
+
+sheet-most : (c : Config) (msg : List ℕ) (s : ℕ) (from : Cursor) → from .number ≤ 5 → sheetOf c msg s from .cursor .number ≤ 5
+unfolding sheetOf
+sheet-most c msg s from h = rows-most c msg _ _ (number-most msg _ _ _ _ _ h) 16
+
+scan-most : (c : Config) (msg : List ℕ) → scanOf c msg .number ≤ 5
+unfolding scanOf endOf readNote
+scan-most c msg =
+    require-most _ 5 _ (omega arith)
+    (require-most _ 2 _ (omega arith)
+    (number-most msg _ _ _ _ _ (sheet-most c msg _ _ (register-most c msg _ _ (head-most c msg)))))
+
+pub check-most : (c : Config) (msg : List ℕ) → check c msg ≤ 5
+unfolding check
+check-most c msg = by-valid (validOf c)
+  where
+    by-valid : (v : Bool) → cond v (scanOf c msg .number) 1 ≤ 5
+    by-valid true = scan-most c msg
+    by-valid false = omega arith
+
+-- ---- the answer
+
+pub refusal-number : (k : ℕ) → 0 < k → k ≤ 5 → numberOf (refusalOf k) ≡ k
+unfolding refusalOf
+refusal-number zero p l = absurd (omega arith)
+refusal-number (suc zero) p l = refl
+refusal-number (suc (suc zero)) p l = refl
+refusal-number (suc (suc (suc zero))) p l = refl
+refusal-number (suc (suc (suc (suc zero)))) p l = refl
+refusal-number (suc (suc (suc (suc (suc zero))))) p l = refl
+refusal-number (suc (suc (suc (suc (suc (suc k)))))) p l = absurd (omega arith)
+
+-- 0 is accepted
+pub check-accepted : (c : Config) (msg : List ℕ) → check c msg ≡ 0 → checkAnswer c msg ≡ Verdict.Accepted
+unfolding checkAnswer verdictOf
+check-accepted c msg e = simp (eq-eqb (check c msg) 0 e)
+
+-- every other number is that of the refusal
+pub check-refused : (c : Config) (msg : List ℕ) → 0 < check c msg
+    → (checkAnswer c msg ≡ Verdict.Refused (refusalOf (check c msg))) × (numberOf (refusalOf (check c msg)) ≡ check c msg)
+unfolding checkAnswer verdictOf
+check-refused c msg p = (simp (ne-eqb (check c msg) 0 (λ e. omega arith)), refusal-number (check c msg) p (check-most c msg))
