@@ -31,7 +31,13 @@ pub message-written : (c : Config) (h : Header) (v : List ℕ) (map rowsMap : �
     ≡ encode c h v
 unfolding encode encodeFields sheet note
 message-written c h v map rowsMap e r =
-    rw (e, r, append-assoc (head (fieldMapOf (fieldsOf h v)) (h .kind) (h .server) (h .desk) (h .round) ++ register c (h .tag .stamp) (h .tag .desk) v))
+    let m : ℕ = rowMap (countOf (h .ledger)) (cellOf (h .ledger)) in
+    rw (
+      e,
+      r,
+      append-assoc (head (fieldMapOf (fieldsOf h v)) (h .kind) (h .server) (h .desk) (h .round) ++ register c (h .tag .stamp) (h .tag .desk) v)
+          (number m 2 m) (rows (countOf (h .ledger)) (cellOf (h .ledger))),
+    )
 
 pub message-length : (c : Config) (h : Header) (v : List ℕ)
     → length (encode c h v)

@@ -15,118 +15,118 @@ use Rattle.writer.proofs.field.put_head.Tie as tie
 abbrev entry : tie.Start → List ℕ
 entry s = now (s .args .out)
 
-abbrev n1 : tie.Start → List ℕ
-n1 s = number 1 2 (s .args .map)
+abbrev map-bytes : tie.Start → List ℕ
+map-bytes s = number 1 2 (s .args .map)
 
-abbrev n2 : tie.Start → List ℕ
-n2 s = number 1 1 (s .args .header .kind)
+abbrev kind-bytes : tie.Start → List ℕ
+kind-bytes s = number 1 1 (s .args .header .kind)
 
-abbrev n3 : tie.Start → List ℕ
-n3 s = number 1 1 (s .args .header .server)
+abbrev server-bytes : tie.Start → List ℕ
+server-bytes s = number 1 1 (s .args .header .server)
 
-abbrev n4 : tie.Start → List ℕ
-n4 s = number (s .args .header .desk) 2 (s .args .header .desk)
+abbrev desk-bytes : tie.Start → List ℕ
+desk-bytes s = number (s .args .header .desk) 2 (s .args .header .desk)
 
-abbrev n5 : tie.Start → List ℕ
-n5 s = number (s .args .header .round) 4 (s .args .header .round)
+abbrev round-bytes : tie.Start → List ℕ
+round-bytes s = number (s .args .header .round) 4 (s .args .header .round)
 
-abbrev e2 : tie.Start → List ℕ
-e2 s = n1 s ++ n2 s
+abbrev to-kind : tie.Start → List ℕ
+to-kind s = map-bytes s ++ kind-bytes s
 
-abbrev e3 : tie.Start → List ℕ
-e3 s = e2 s ++ n3 s
+abbrev to-server : tie.Start → List ℕ
+to-server s = to-kind s ++ server-bytes s
 
-abbrev e4 : tie.Start → List ℕ
-e4 s = e3 s ++ n4 s
+abbrev to-desk : tie.Start → List ℕ
+to-desk s = to-server s ++ desk-bytes s
 
-abbrev e5 : tie.Start → List ℕ
-e5 s = e4 s ++ n5 s
+abbrev to-round : tie.Start → List ℕ
+to-round s = to-desk s ++ round-bytes s
 
 -- there is room for each
 
-room5 : (s : tie.Start) → length (e5 s) ≤ length (entry s)
+room-round : (s : tie.Start) → length (to-round s) ≤ length (entry s)
 unfolding head
-room5 s = s .pre
+room-round s = s .pre
 
-room4 : (s : tie.Start) → length (e4 s) ≤ length (entry s)
-room4 s = room-first (e4 s) (n5 s) (entry s) (room5 s)
+room-desk : (s : tie.Start) → length (to-desk s) ≤ length (entry s)
+room-desk s = room-first (to-desk s) (round-bytes s) (entry s) (room-round s)
 
-room3 : (s : tie.Start) → length (e3 s) ≤ length (entry s)
-room3 s = room-first (e3 s) (n4 s) (entry s) (room4 s)
+room-server : (s : tie.Start) → length (to-server s) ≤ length (entry s)
+room-server s = room-first (to-server s) (desk-bytes s) (entry s) (room-desk s)
 
-room2 : (s : tie.Start) → length (e2 s) ≤ length (entry s)
-room2 s = room-first (e2 s) (n3 s) (entry s) (room3 s)
+room-kind : (s : tie.Start) → length (to-kind s) ≤ length (entry s)
+room-kind s = room-first (to-kind s) (server-bytes s) (entry s) (room-server s)
 
-room1 : (s : tie.Start) → length (n1 s) ≤ length (entry s)
-room1 s = room-first (n1 s) (n2 s) (entry s) (room2 s)
+room-map : (s : tie.Start) → length (map-bytes s) ≤ length (entry s)
+room-map s = room-first (map-bytes s) (kind-bytes s) (entry s) (room-kind s)
 
 -- after each call: the call before, the function's entry, the buffer and the place, and that so much is written
 
-abbrev start1 : tie.After-put-number → tie.Start
-start1 c = c .before .before .before .before .before
+abbrev start-map : tie.After-put-number → tie.Start
+start-map c = c .before .before .before .before .before
 
-written1 : (c : tie.After-put-number) → Written (n1 (start1 c)) (entry (start1 c)) (c .put-number .last .0) (c .put-number .result)
-written1 c = record { is-buffer = c .put-number .ensures .0; is-place = c .put-number .ensures .1; room = room1 (start1 c) }
+written-map : (c : tie.After-put-number) → Written (map-bytes (start-map c)) (entry (start-map c)) (c .put-number .last .0) (c .put-number .result)
+written-map c = record { is-buffer = c .put-number .ensures .0; is-place = c .put-number .ensures .1; room = room-map (start-map c) }
 
-abbrev prev2 : tie.After-put-number2 → tie.After-put-number
-prev2 c = c .before .before .before .before .before
+abbrev prev-kind : tie.After-put-number2 → tie.After-put-number
+prev-kind c = c .before .before .before .before .before
 
-abbrev start2 : tie.After-put-number2 → tie.Start
-start2 c = start1 (prev2 c)
+abbrev start-kind : tie.After-put-number2 → tie.Start
+start-kind c = start-map (prev-kind c)
 
-abbrev out2 : tie.After-put-number2 → List ℕ
-out2 c = back (prev2 c .put-number .result) (prev2 c .put-number .last .0) (c .put-number2 .last .0)
+abbrev out-kind : tie.After-put-number2 → List ℕ
+out-kind c = back (prev-kind c .put-number .result) (prev-kind c .put-number .last .0) (c .put-number2 .last .0)
 
-abbrev at2 : tie.After-put-number2 → ℕ
-at2 c = prev2 c .put-number .result + c .put-number2 .result
+abbrev at-kind : tie.After-put-number2 → ℕ
+at-kind c = prev-kind c .put-number .result + c .put-number2 .result
 
-written2 : (c : tie.After-put-number2) → Written (e2 (start2 c)) (entry (start2 c)) (out2 c) (at2 c)
-written2 c = written-next (written1 (prev2 c)) (n2 (start2 c)) _ _ (room2 (start2 c)) (c .put-number2 .ensures .0) (c .put-number2 .ensures .1)
+written-kind : (c : tie.After-put-number2) → Written (to-kind (start-kind c)) (entry (start-kind c)) (out-kind c) (at-kind c)
+written-kind c = written-next (written-map (prev-kind c)) (kind-bytes (start-kind c)) _ _ (room-kind (start-kind c)) (c .put-number2 .ensures .0) (c .put-number2 .ensures .1)
 
-abbrev prev3 : tie.After-put-number3 → tie.After-put-number2
-prev3 c = c .before .before .before .before .before
+abbrev prev-server : tie.After-put-number3 → tie.After-put-number2
+prev-server c = c .before .before .before .before .before
 
-abbrev start3 : tie.After-put-number3 → tie.Start
-start3 c = start2 (prev3 c)
+abbrev start-server : tie.After-put-number3 → tie.Start
+start-server c = start-kind (prev-server c)
 
-abbrev out3 : tie.After-put-number3 → List ℕ
-out3 c = back (at2 (prev3 c)) (out2 (prev3 c)) (c .put-number3 .last .0)
+abbrev out-server : tie.After-put-number3 → List ℕ
+out-server c = back (at-kind (prev-server c)) (out-kind (prev-server c)) (c .put-number3 .last .0)
 
-abbrev at3 : tie.After-put-number3 → ℕ
-at3 c = at2 (prev3 c) + c .put-number3 .result
+abbrev at-server : tie.After-put-number3 → ℕ
+at-server c = at-kind (prev-server c) + c .put-number3 .result
 
-written3 : (c : tie.After-put-number3) → Written (e3 (start3 c)) (entry (start3 c)) (out3 c) (at3 c)
-written3 c = written-next (written2 (prev3 c)) (n3 (start3 c)) _ _ (room3 (start3 c)) (c .put-number3 .ensures .0) (c .put-number3 .ensures .1)
+written-server : (c : tie.After-put-number3) → Written (to-server (start-server c)) (entry (start-server c)) (out-server c) (at-server c)
+written-server c = written-next (written-kind (prev-server c)) (server-bytes (start-server c)) _ _ (room-server (start-server c)) (c .put-number3 .ensures .0) (c .put-number3 .ensures .1)
 
-abbrev prev4 : tie.After-put-number4 → tie.After-put-number3
-prev4 c = c .before .before .before .before
+abbrev prev-desk : tie.After-put-number4 → tie.After-put-number3
+prev-desk c = c .before .before .before .before
 
-abbrev start4 : tie.After-put-number4 → tie.Start
-start4 c = start3 (prev4 c)
+abbrev start-desk : tie.After-put-number4 → tie.Start
+start-desk c = start-server (prev-desk c)
 
-abbrev out4 : tie.After-put-number4 → List ℕ
-out4 c = back (at3 (prev4 c)) (out3 (prev4 c)) (c .put-number4 .last .0)
+abbrev out-desk : tie.After-put-number4 → List ℕ
+out-desk c = back (at-server (prev-desk c)) (out-server (prev-desk c)) (c .put-number4 .last .0)
 
-abbrev at4 : tie.After-put-number4 → ℕ
-at4 c = at3 (prev4 c) + c .put-number4 .result
+abbrev at-desk : tie.After-put-number4 → ℕ
+at-desk c = at-server (prev-desk c) + c .put-number4 .result
 
-written4 : (c : tie.After-put-number4) → Written (e4 (start4 c)) (entry (start4 c)) (out4 c) (at4 c)
-written4 c = written-next (written3 (prev4 c)) (n4 (start4 c)) _ _ (room4 (start4 c)) (c .put-number4 .ensures .0) (c .put-number4 .ensures .1)
+written-desk : (c : tie.After-put-number4) → Written (to-desk (start-desk c)) (entry (start-desk c)) (out-desk c) (at-desk c)
+written-desk c = written-next (written-server (prev-desk c)) (desk-bytes (start-desk c)) _ _ (room-desk (start-desk c)) (c .put-number4 .ensures .0) (c .put-number4 .ensures .1)
 
-abbrev prev5 : tie.After-put-number5 → tie.After-put-number4
-prev5 c = c .before .before .before .before
+abbrev prev-round : tie.After-put-number5 → tie.After-put-number4
+prev-round c = c .before .before .before .before
 
-abbrev start5 : tie.After-put-number5 → tie.Start
-start5 c = start4 (prev5 c)
+abbrev start-round : tie.After-put-number5 → tie.Start
+start-round c = start-desk (prev-round c)
 
-abbrev out5 : tie.After-put-number5 → List ℕ
-out5 c = back (at4 (prev5 c)) (out4 (prev5 c)) (c .put-number5 .last .0)
+abbrev out-round : tie.After-put-number5 → List ℕ
+out-round c = back (at-desk (prev-round c)) (out-desk (prev-round c)) (c .put-number5 .last .0)
 
-abbrev at5 : tie.After-put-number5 → ℕ
-at5 c = at4 (prev5 c) + c .put-number5 .result
+abbrev at-round : tie.After-put-number5 → ℕ
+at-round c = at-desk (prev-round c) + c .put-number5 .result
 
-written5 : (c : tie.After-put-number5) → Written (e5 (start5 c)) (entry (start5 c)) (out5 c) (at5 c)
-written5 c = written-next (written4 (prev5 c)) (n5 (start5 c)) _ _ (room5 (start5 c)) (c .put-number5 .ensures .0) (c .put-number5 .ensures .1)
+written-round : (c : tie.After-put-number5) → Written (to-round (start-round c)) (entry (start-round c)) (out-round c) (at-round c)
+written-round c = written-next (written-desk (prev-round c)) (round-bytes (start-round c)) _ _ (room-round (start-round c)) (c .put-number5 .ensures .0) (c .put-number5 .ensures .1)
 
 cast-desk : tie.Need-cast-desk
 cast-desk c = search needs
@@ -135,13 +135,13 @@ cast-round : tie.Need-cast-round
 cast-round c = search needs
 
 put-number-requires : tie.Need-put-number-requires
-put-number-requires c κs = room1 (c .before .before .before .before)
+put-number-requires c κs = room-map (c .before .before .before .before)
 
 sub-put-number : tie.Need-sub-put-number
-sub-put-number c = written-place (written1 (c .before .before))
+sub-put-number c = written-place (written-map (c .before .before))
 
 part-put-number-start : tie.Need-part-put-number-start
-part-put-number-start c = written-place (written1 (c .before .before))
+part-put-number-start c = written-place (written-map (c .before .before))
 
 part-put-number-end : tie.Need-part-put-number-end
 part-put-number-end c = search needs
@@ -150,16 +150,16 @@ cast-put-number : tie.Need-cast-put-number
 cast-put-number c = search needs
 
 put-number-requires-2 : tie.Need-put-number-requires-2
-put-number-requires-2 c κs = written-lent (written1 (c .before .before .before .before)) (n2 (start1 (c .before .before .before .before))) (room2 (start1 (c .before .before .before .before)))
+put-number-requires-2 c κs = written-lent (written-map (c .before .before .before .before)) (kind-bytes (start-map (c .before .before .before .before))) (room-kind (start-map (c .before .before .before .before)))
 
 add-p : tie.Need-add-p
-add-p c = written-fits (written2 (c .before .before)) (start2 (c .before .before) .good .0 .0)
+add-p c = written-fits (written-kind (c .before .before)) (start-kind (c .before .before) .good .0 .0)
 
 sub-put-number-2 : tie.Need-sub-put-number-2
-sub-put-number-2 c = written-place (written2 (c .before .before))
+sub-put-number-2 c = written-place (written-kind (c .before .before))
 
 part-put-number-start-2 : tie.Need-part-put-number-start-2
-part-put-number-start-2 c = written-place (written2 (c .before .before))
+part-put-number-start-2 c = written-place (written-kind (c .before .before))
 
 part-put-number-end-2 : tie.Need-part-put-number-end-2
 part-put-number-end-2 c = search needs
@@ -168,47 +168,47 @@ cast-put-number-2 : tie.Need-cast-put-number-2
 cast-put-number-2 c = search needs
 
 put-number-requires-3 : tie.Need-put-number-requires-3
-put-number-requires-3 c κs = written-lent (written2 (c .before .before .before .before)) (n3 (start2 (c .before .before .before .before))) (room3 (start2 (c .before .before .before .before)))
+put-number-requires-3 c κs = written-lent (written-kind (c .before .before .before .before)) (server-bytes (start-kind (c .before .before .before .before))) (room-server (start-kind (c .before .before .before .before)))
 
 add-p-2 : tie.Need-add-p-2
-add-p-2 c = written-fits (written3 (c .before .before)) (start3 (c .before .before) .good .0 .0)
+add-p-2 c = written-fits (written-server (c .before .before)) (start-server (c .before .before) .good .0 .0)
 
 sub-put-number-3 : tie.Need-sub-put-number-3
-sub-put-number-3 c = written-place (written3 (c .before .before))
+sub-put-number-3 c = written-place (written-server (c .before .before))
 
 part-put-number-start-3 : tie.Need-part-put-number-start-3
-part-put-number-start-3 c = written-place (written3 (c .before .before))
+part-put-number-start-3 c = written-place (written-server (c .before .before))
 
 part-put-number-end-3 : tie.Need-part-put-number-end-3
 part-put-number-end-3 c = search needs
 
 put-number-requires-4 : tie.Need-put-number-requires-4
-put-number-requires-4 c κs = written-lent (written3 (c .before .before .before)) (n4 (start3 (c .before .before .before))) (room4 (start3 (c .before .before .before)))
+put-number-requires-4 c κs = written-lent (written-server (c .before .before .before)) (desk-bytes (start-server (c .before .before .before))) (room-desk (start-server (c .before .before .before)))
 
 add-p-3 : tie.Need-add-p-3
-add-p-3 c = written-fits (written4 (c .before .before)) (start4 (c .before .before) .good .0 .0)
+add-p-3 c = written-fits (written-desk (c .before .before)) (start-desk (c .before .before) .good .0 .0)
 
 sub-put-number-4 : tie.Need-sub-put-number-4
-sub-put-number-4 c = written-place (written4 (c .before .before))
+sub-put-number-4 c = written-place (written-desk (c .before .before))
 
 part-put-number-start-4 : tie.Need-part-put-number-start-4
-part-put-number-start-4 c = written-place (written4 (c .before .before))
+part-put-number-start-4 c = written-place (written-desk (c .before .before))
 
 part-put-number-end-4 : tie.Need-part-put-number-end-4
 part-put-number-end-4 c = search needs
 
 put-number-requires-5 : tie.Need-put-number-requires-5
-put-number-requires-5 c κs = written-lent (written4 (c .before .before .before)) (n5 (start4 (c .before .before .before))) (room5 (start4 (c .before .before .before)))
+put-number-requires-5 c κs = written-lent (written-desk (c .before .before .before)) (round-bytes (start-desk (c .before .before .before))) (room-round (start-desk (c .before .before .before)))
 
 add-p-4 : tie.Need-add-p-4
-add-p-4 c = written-fits (written5 (c .before .before)) (start5 (c .before .before) .good .0 .0)
+add-p-4 c = written-fits (written-round (c .before .before)) (start-round (c .before .before) .good .0 .0)
 
 same-length : tie.Need-same-length
 same-length c = search needs
 
 returns : tie.Need-returns
 unfolding head
-returns c = let w = written5 (c .before .before) in (w .is-buffer, w .is-place)
+returns c = let w = written-round (c .before .before) in (w .is-buffer, w .is-place)
 
 pub put-head-spec : {M : Type 1} → statement M
 put-head-spec =

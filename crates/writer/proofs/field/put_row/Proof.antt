@@ -18,117 +18,117 @@ use Rattle.writer.proofs.field.put_row.Tie as tie
 abbrev entry : tie.Start → List ℕ
 entry s = now (s .args .out)
 
-abbrev n1 : tie.Start → List ℕ
-n1 s = number (s .args .count + s .args .map) 2 (s .args .count)
+abbrev count-bytes : tie.Start → List ℕ
+count-bytes s = number (s .args .count + s .args .map) 2 (s .args .count)
 
-abbrev n2 : tie.Start → List ℕ
-n2 s = number (s .args .count + s .args .map) 2 (s .args .map)
+abbrev map-bytes : tie.Start → List ℕ
+map-bytes s = number (s .args .count + s .args .map) 2 (s .args .map)
 
-abbrev n3 : tie.Start → List ℕ
-n3 s = cells (λ j. getD (now (s .args .row)) j 0)
+abbrev cells-bytes : tie.Start → List ℕ
+cells-bytes s = cells (λ j. getD (now (s .args .row)) j 0)
 
-abbrev e2 : tie.Start → List ℕ
-e2 s = n1 s ++ n2 s
+abbrev to-map : tie.Start → List ℕ
+to-map s = count-bytes s ++ map-bytes s
 
-abbrev e3 : tie.Start → List ℕ
-e3 s = e2 s ++ n3 s
+abbrev to-cells : tie.Start → List ℕ
+to-cells s = to-map s ++ cells-bytes s
 
 -- there is room for each
 
-whole : (s : tie.Start) → e3 s ≡ row (s .args .count) (λ j. getD (now (s .args .row)) j 0)
+whole : (s : tie.Start) → to-cells s ≡ row (s .args .count) (λ j. getD (now (s .args .row)) j 0)
 whole s = row-written (s .args .count) (s .args .map) (λ j. getD (now (s .args .row)) j 0) (s .pre .3)
 
-room3 : (s : tie.Start) → length (e3 s) ≤ length (entry s)
-room3 s = rw (whole s) (s .pre .4)
+room-cells : (s : tie.Start) → length (to-cells s) ≤ length (entry s)
+room-cells s = rw (whole s) (s .pre .4)
 
-room2 : (s : tie.Start) → length (e2 s) ≤ length (entry s)
-room2 s = room-first (e2 s) (n3 s) (entry s) (room3 s)
+room-map : (s : tie.Start) → length (to-map s) ≤ length (entry s)
+room-map s = room-first (to-map s) (cells-bytes s) (entry s) (room-cells s)
 
-room1 : (s : tie.Start) → length (n1 s) ≤ length (entry s)
-room1 s = room-first (n1 s) (n2 s) (entry s) (room2 s)
+room-count : (s : tie.Start) → length (count-bytes s) ≤ length (entry s)
+room-count s = room-first (count-bytes s) (map-bytes s) (entry s) (room-map s)
 
 -- after each call: the call before, the function's entry, the buffer and the place, and that so much is written
 
-abbrev start1 : tie.After-put-number → tie.Start
-start1 c = c .before .before .before .before
+abbrev start-count : tie.After-put-number → tie.Start
+start-count c = c .before .before .before .before
 
-written1 : (c : tie.After-put-number) → Written (n1 (start1 c)) (entry (start1 c)) (c .put-number .last .0) (c .put-number .result)
-written1 c = record { is-buffer = c .put-number .ensures .0; is-place = c .put-number .ensures .1; room = room1 (start1 c) }
+written-count : (c : tie.After-put-number) → Written (count-bytes (start-count c)) (entry (start-count c)) (c .put-number .last .0) (c .put-number .result)
+written-count c = record { is-buffer = c .put-number .ensures .0; is-place = c .put-number .ensures .1; room = room-count (start-count c) }
 
-abbrev prev2 : tie.After-put-number2 → tie.After-put-number
-prev2 c = c .before .before .before .before
+abbrev prev-map : tie.After-put-number2 → tie.After-put-number
+prev-map c = c .before .before .before .before
 
-abbrev start2 : tie.After-put-number2 → tie.Start
-start2 c = start1 (prev2 c)
+abbrev start-map : tie.After-put-number2 → tie.Start
+start-map c = start-count (prev-map c)
 
-abbrev out2 : tie.After-put-number2 → List ℕ
-out2 c = back (prev2 c .put-number .result) (prev2 c .put-number .last .0) (c .put-number2 .last .0)
+abbrev out-map : tie.After-put-number2 → List ℕ
+out-map c = back (prev-map c .put-number .result) (prev-map c .put-number .last .0) (c .put-number2 .last .0)
 
-abbrev at2 : tie.After-put-number2 → ℕ
-at2 c = prev2 c .put-number .result + c .put-number2 .result
+abbrev at-map : tie.After-put-number2 → ℕ
+at-map c = prev-map c .put-number .result + c .put-number2 .result
 
-written2 : (c : tie.After-put-number2) → Written (e2 (start2 c)) (entry (start2 c)) (out2 c) (at2 c)
-written2 c = written-next (written1 (prev2 c)) (n2 (start2 c)) _ _ (room2 (start2 c)) (c .put-number2 .ensures .0) (c .put-number2 .ensures .1)
+written-map : (c : tie.After-put-number2) → Written (to-map (start-map c)) (entry (start-map c)) (out-map c) (at-map c)
+written-map c = written-next (written-count (prev-map c)) (map-bytes (start-map c)) _ _ (room-map (start-map c)) (c .put-number2 .ensures .0) (c .put-number2 .ensures .1)
 
-abbrev prev3 : tie.After-put-cells → tie.After-put-number2
-prev3 c = c .before .before .before .before
+abbrev prev-cells : tie.After-put-cells → tie.After-put-number2
+prev-cells c = c .before .before .before .before
 
-abbrev start3 : tie.After-put-cells → tie.Start
-start3 c = start2 (prev3 c)
+abbrev start-cells : tie.After-put-cells → tie.Start
+start-cells c = start-map (prev-cells c)
 
-abbrev out3 : tie.After-put-cells → List ℕ
-out3 c = back (at2 (prev3 c)) (out2 (prev3 c)) (c .put-cells .last .0)
+abbrev out-cells : tie.After-put-cells → List ℕ
+out-cells c = back (at-map (prev-cells c)) (out-map (prev-cells c)) (c .put-cells .last .0)
 
-abbrev at3 : tie.After-put-cells → ℕ
-at3 c = at2 (prev3 c) + c .put-cells .result
+abbrev at-cells : tie.After-put-cells → ℕ
+at-cells c = at-map (prev-cells c) + c .put-cells .result
 
-written3 : (c : tie.After-put-cells) → Written (e3 (start3 c)) (entry (start3 c)) (out3 c) (at3 c)
-written3 c = written-next (written2 (prev3 c)) (n3 (start3 c)) _ _ (room3 (start3 c)) (c .put-cells .ensures .0) (c .put-cells .ensures .1)
+written-cells : (c : tie.After-put-cells) → Written (to-cells (start-cells c)) (entry (start-cells c)) (out-cells c) (at-cells c)
+written-cells c = written-next (written-map (prev-cells c)) (cells-bytes (start-cells c)) _ _ (room-cells (start-cells c)) (c .put-cells .ensures .0) (c .put-cells .ensures .1)
 
 add-stands : tie.Need-add-stands
 add-stands c = search needs
 
 put-number-requires : tie.Need-put-number-requires
-put-number-requires c κs = room1 (c .before .before .before)
+put-number-requires c κs = room-count (c .before .before .before)
 
 sub-put-number : tie.Need-sub-put-number
-sub-put-number c = written-place (written1 (c .before .before))
+sub-put-number c = written-place (written-count (c .before .before))
 
 part-put-number-start : tie.Need-part-put-number-start
-part-put-number-start c = written-place (written1 (c .before .before))
+part-put-number-start c = written-place (written-count (c .before .before))
 
 part-put-number-end : tie.Need-part-put-number-end
 part-put-number-end c = search needs
 
 put-number-requires-2 : tie.Need-put-number-requires-2
-put-number-requires-2 c κs = written-lent (written1 (c .before .before .before)) (n2 (start1 (c .before .before .before))) (room2 (start1 (c .before .before .before)))
+put-number-requires-2 c κs = written-lent (written-count (c .before .before .before)) (map-bytes (start-count (c .before .before .before))) (room-map (start-count (c .before .before .before)))
 
 add-p : tie.Need-add-p
-add-p c = written-fits (written2 (c .before .before)) (start2 (c .before .before) .good .0 .0)
+add-p c = written-fits (written-map (c .before .before)) (start-map (c .before .before) .good .0 .0)
 
 sub-put-cells : tie.Need-sub-put-cells
-sub-put-cells c = written-place (written2 (c .before .before))
+sub-put-cells c = written-place (written-map (c .before .before))
 
 part-put-cells-start : tie.Need-part-put-cells-start
-part-put-cells-start c = written-place (written2 (c .before .before))
+part-put-cells-start c = written-place (written-map (c .before .before))
 
 part-put-cells-end : tie.Need-part-put-cells-end
 part-put-cells-end c = search needs
 
 put-cells-requires : tie.Need-put-cells-requires
-put-cells-requires c κs = (start2 (c .before .before .before) .pre .0, written-lent (written2 (c .before .before .before)) (n3 (start2 (c .before .before .before))) (room3 (start2 (c .before .before .before))))
+put-cells-requires c κs = (start-map (c .before .before .before) .pre .0, written-lent (written-map (c .before .before .before)) (cells-bytes (start-map (c .before .before .before))) (room-cells (start-map (c .before .before .before))))
 
 add-p-2 : tie.Need-add-p-2
-add-p-2 c = written-fits (written3 (c .before .before)) (start3 (c .before .before) .good .0 .0)
+add-p-2 c = written-fits (written-cells (c .before .before)) (start-cells (c .before .before) .good .0 .0)
 
 same-length : tie.Need-same-length
 same-length c = search needs
 
 returns : tie.Need-returns
 returns c =
-    let w = written3 (c .before .before) in
-    let e = whole (start3 (c .before .before)) in
-    (w .is-buffer ∙ ap (λ (x : List ℕ). over x (entry (start3 (c .before .before)))) e, w .is-place ∙ ap length e)
+    let w = written-cells (c .before .before) in
+    let e = whole (start-cells (c .before .before)) in
+    (w .is-buffer ∙ ap (λ (x : List ℕ). over x (entry (start-cells (c .before .before)))) e, w .is-place ∙ ap length e)
 
 pub put-row-spec : {M : Type 1} → statement M
 put-row-spec =
