@@ -21,10 +21,9 @@ use Rattle.message.specs.declared.state.Cursor.{Cursor}
 use Rattle.message.specs.declared.state.HeadRead.{HeadRead}
 use Rattle.message.specs.declared.state.RegisterRead.{RegisterRead}
 use Rattle.message.specs.declared.state.SheetRead.{SheetRead}
-use Rattle.message.specs.declared.state.Scan.{Scan}
 use Rattle.message.specs.Headers.{encode, Typed}
 use Rattle.message.specs.Cursors.{within, readNumber}
-use Rattle.message.specs.Scans.{headOf, registerOf, sheetOf, readNote, endOf, scanOf}
+use Rattle.message.specs.Scans.{headOf, registerOf, sheetOf, readNote, endOf, scanOf, Scan}
 use Rattle.message.specs.Answers.{check}
 use Rattle.message.specs.Faults.{kindFits, registerFits, test, faultOf}
 use Rattle.message.proofs.Stuck.{Stuck, stuck-at, scan-stuck-head, scan-stuck-register, scan-stuck-sheet}

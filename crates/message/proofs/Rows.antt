@@ -18,9 +18,8 @@ use Rattle.format.specs.Bytes.{number, stands, marks, bit}
 use Rattle.format.specs.Table.{cellMap, cells, rowMark, row}
 use Rattle.format.proofs.Marks.{stands-none, stands-pos, marks-lt, bit-marks}
 use Rattle.message.specs.declared.state.Cursor.{Cursor}
-use Rattle.message.specs.declared.state.RowRead.{RowRead}
 use Rattle.message.specs.Cursors.{within, readNumber, require}
-use Rattle.message.specs.Scans.{cellsAfter, cellRead, readCount, cellMapOf, rowCells, rowOf}
+use Rattle.message.specs.Scans.{RowRead, cellsAfter, cellRead, readCount, cellMapOf, rowCells, rowOf}
 use Rattle.message.proofs.Stuck.{Stuck, stuck-at, require-stuck, row-stuck-map, map-stuck}
 use Rattle.message.proofs.Ahead.{apart, past}
 use Rattle.message.proofs.GoodRows.{RowGood, count-stands, map-of-mark, map-below, own-empty, absent-count, absent-map, placed-cell, absent-good}

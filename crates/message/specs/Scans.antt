@@ -14,9 +14,8 @@ use Rattle.format.specs.Bytes.{bit}
 use Rattle.message.specs.declared.state.Cursor.{Cursor}
 use Rattle.message.specs.declared.state.HeadRead.{HeadRead}
 use Rattle.message.specs.declared.state.RegisterRead.{RegisterRead}
-use Rattle.message.specs.declared.state.RowRead.{RowRead}
 use Rattle.message.specs.declared.state.SheetRead.{SheetRead}
-use Rattle.message.specs.declared.state.Scan.{Scan}
+use Rattle.message.specs.declared.header.Header.{Header}
 use Rattle.message.specs.Cursors.{start, readNumber, skip, require}
 
 -- ---- the map and bits 0 to 3
@@ -77,6 +76,11 @@ cellMapOf c msg i s count = let m = readNumber msg s 2 1 (2 ^ c .n - 1) count in
 unfoldable pub rowCells : Config → List ℕ → ℕ → ℕ → Cursor → ℕ → ℕ
 rowCells c msg i s from j = let m = cellMapOf c msg i s (readCount msg s from) in cellRead msg (m .x) m j
 
+-- A row: its count, and the cursor behind it.
+pub record RowRead : Type 0 where
+  pub count : ℕ
+  pub cursor : Cursor
+
 -- the row of giver i, whose total lies from its count to 16,000 × count
 unfoldable pub rowOf : Config → List ℕ → ℕ → ℕ → Cursor → RowRead
 rowOf c msg i s from =
@@ -112,6 +116,13 @@ readNote msg s c = readNumber msg s 4 1 4294967295 c
 -- no bytes left over, or 2; last 5
 unfoldable pub endOf : Config → List ℕ → Ledger → Cursor → Cursor
 endOf c msg l note = require (aboveFloor c l) 5 (require (eqb (note .at) (length msg)) 2 note)
+
+-- The number of the first fault, or 0, and what was found before it: the header, and where the value lies.
+pub record Scan : Type 0 where
+  pub number : ℕ
+  pub header : Header
+  pub from : ℕ
+  pub length : ℕ
 
 unfoldable pub scanOf : Config → List ℕ → Scan
 scanOf c msg =

@@ -11,6 +11,4 @@ pub use header::Tag;
 pub use state::Cursor;
 pub use state::HeadRead;
 pub use state::RegisterRead;
-pub use state::RowRead;
-pub use state::Scan;
 pub use state::SheetRead;

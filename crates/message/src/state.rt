@@ -1,5 +1,4 @@
 // Where a reader stands, and what each of its parts found. Numbers are kept wide until the header is made.
-use super::header::Header;
 use ledger::Ledger;
 
 // Once the number isn't 0, every later step leaves it and the place as they are.
@@ -31,22 +30,8 @@ pub struct RegisterRead {
     pub cursor: Cursor,
 }
 
-// A row of the sheet; its cells stand elsewhere.
-pub struct RowRead {
-    pub count: u64,
-    pub cursor: Cursor,
-}
-
 // The sheet.
 pub struct SheetRead {
     pub ledger: Ledger,
     pub cursor: Cursor,
-}
-
-// A whole message: the number, and what was found before the first fault.
-pub struct Scan {
-    pub number: u64,
-    pub header: Header,
-    pub from: usize,
-    pub length: u64,
 }

@@ -3,3 +3,10 @@ pub mod Numbers
 pub mod Steps
 pub mod Absent
 pub mod Rows
+pub mod Rests
+pub mod Placed
+pub mod Tallies
+pub mod Weighed
+pub mod Weights
+pub mod Scanned
+pub mod Answered

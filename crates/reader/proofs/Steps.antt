@@ -1,7 +1,7 @@
 -- The reader's steps as the loops and calls take them: one more turn of a definition, from what the calls of that turn gave.
 use Prim.Native.Nat.{ℕ, _+_, _/_, _%_}
 use native.Mathlib.Numerals.{add-one}
-use mathlib.Core.Path.{_≡_, ap, ap₂, _∙_}
+use mathlib.Core.Path.{_≡_, ap}
 use mathlib.Core.Bool.{Bool}
 use mathlib.Core.List.{List}
 use borrow.Author.Tests.{ne-eqb}
@@ -9,9 +9,8 @@ use Rattle.config.specs.declared.cluster.Config.{Config}
 use Rattle.ledger.specs.Tables.{table}
 use Rattle.format.specs.Bytes.{bit}
 use Rattle.message.specs.declared.state.Cursor.{Cursor}
-use Rattle.message.specs.declared.state.RowRead.{RowRead}
 use Rattle.message.specs.Cursors.{readNumber, require}
-use Rattle.message.specs.Scans.{cellsAfter, cellRead, readCount, cellMapOf, rowCells, rowOf, rowsAfter, countRead, cellOfRow, ledgerRead}
+use Rattle.message.specs.Scans.{cellsAfter, cellRead, readCount, cellMapOf, rowCells, countRead, cellOfRow, ledgerRead}
 
 -- a test leaves a cursor that has a number
 pub require-stays : (ok : Bool) (k : ℕ) (c : Cursor) → (c .number ≡ 0 → ⊥) → require ok k c ≡ c
@@ -33,15 +32,6 @@ pub row-cell : (c : Config) (msg : List ℕ) (i s : ℕ) (from : Cursor) {count 
     → m ≡ cellMapOf c msg i s count → (j : ℕ) → cellRead msg (m .x) m j ≡ rowCells c msg i s from j
 unfolding rowCells readCount
 row-cell c msg i s from p q j = rw (← p, ← q)
-
--- one row more: the cursor, the count and the cells, from the cursor before it and its bit
-pub row-turn : (c : Config) (msg : List ℕ) (m : ℕ) (from : Cursor) (i b : ℕ) {at : Cursor} {r : RowRead} {l : List ℕ}
-    → at ≡ rowsAfter c msg m from i → b ≡ bit m i → r ≡ rowOf c msg i b at → l ≡ table 16 (rowCells c msg i b at)
-    → (r .cursor ≡ rowsAfter c msg m from (i + 1)) × (r .count ≡ countRead c msg m from i) × (l ≡ table 16 (cellOfRow c msg m from i))
-unfolding rowsAfter countRead cellOfRow
-row-turn c msg m from i b here stands row cells =
-    let full : _ ≡ rowOf c msg i (bit m i) (rowsAfter c msg m from i) = row ∙ ap₂ (rowOf c msg i) stands here in
-    (rw add-one (ap (λ (r : RowRead). r .cursor) full), ap (λ (r : RowRead). r .count) full, cells ∙ ap₂ (λ (s : ℕ) (d : Cursor). table 16 (rowCells c msg i s d)) stands here)
 
 -- the ledger of a sheet
 pub ledger-is : (c : Config) (msg : List ℕ) (m : ℕ) (from : Cursor) {counts cells : List ℕ} → counts ≡ table 16 (countRead c msg m from)

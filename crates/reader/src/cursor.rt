@@ -1,9 +1,10 @@
 // The steps that the reader is made of. Each takes a cursor and hands one back; one that has a number stays where it is.
 use message::Cursor;
 ghost use mathlib.Core.Path.{_≡_};
-ghost use Prim.Native.Nat.{_+_, _≤_, _<_};
+ghost use Prim.Native.Nat.{_+_, _^_, _≤_, _<_};
 ghost use lib.ListN.{length};
 ghost use Rattle.format.specs.Bytes.{bit as bitOf};
+ghost use Rattle.reader.specs.Steps.{settled};
 ghost use Rattle.message.specs.Cursors.{stay as stayOf, numberAt, readBytes, readNumber, skip as skipOf, require as requireOf};
 
 // The most that two bytes hold, and four.
@@ -30,6 +31,16 @@ pub(crate) fn stay(number: u64, cursor: Cursor) -> Cursor
     }
 }
 
+// The cursor after 16 steps, of which the last 16 - j have nothing to read.
+pub(crate) fn settle(j: usize, cursor: Cursor) -> Cursor
+    ensures { λ r. ⌜ (r ≡ settled j cursor) × (r .at ≡ cursor .at) ⌝ }
+{
+    if j < 16 {
+        return stay(cursor.number, cursor);
+    }
+    cursor
+}
+
 // A byte at a wider type, with its bound.
 fn wide(x: u8) -> u64
     ensures { λ r. ⌜ (r ≡ x) × (r ≤ 255) ⌝ }
@@ -40,7 +51,7 @@ fn wide(x: u8) -> u64
 // The number in the `width` bytes from `at` on.
 pub(crate) fn number_at(msg: &[u8], at: usize, width: usize) -> u64
     requires { ⌜ (at + width ≤ length (now msg)) × (width ≤ 8) ⌝ }
-    ensures { λ r. ⌜ r ≡ numberAt (now (msg .entry)) at width ⌝ }
+    ensures { λ r. ⌜ (r ≡ numberAt (now (msg .entry)) at width) × (r < 256 ^ width) ⌝ }
 {
     let mut x: u64 = 0;
     let mut k: usize = 0;

@@ -1,11 +1,17 @@
-// Reading messages (paper 01, "Message bytes"): the message check, the fields, and the value as a part of the caller's own message.
+// Reading messages (paper 01, "Message bytes"): the message check, the fields, the value as a part of the caller's own message, and
+// weights and quorums on a message's sheet.
 mod cursor;
 mod head;
 mod read;
 mod register;
 mod scan;
-mod sheet;
+mod sums;
+mod take;
+mod weigh;
+mod whole;
 
 pub use read::check;
 pub use read::fields;
+pub use read::quorum;
 pub use read::value;
+pub use read::weight;

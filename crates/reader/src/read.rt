@@ -1,13 +1,21 @@
 // The calls.
+use super::scan::fault;
 use super::scan::scan;
+use super::sums::is_quorum;
+use super::sums::weight_of;
+use super::whole::header_in;
+use super::whole::register_in;
 use config::Config;
+use config::Decision;
 use config::Refusal;
+use config::Signed;
 use config::Verdict;
 use message::Fields;
 use message::Header;
 use message::refusal;
 ghost use mathlib.Core.Path.{_≡_};
 ghost use Rattle.message.specs.Answers.{checkAnswer, fieldsAnswer, valueAnswer};
+ghost use Rattle.reader.specs.Weighings.{weightIn, quorumIn};
 
 // The message check: 1 for the cluster, then the first fault of the message.
 pub fn check(config: Config, msg: &[u8]) -> Verdict
@@ -16,14 +24,14 @@ pub fn check(config: Config, msg: &[u8]) -> Verdict
     if !config.valid() {
         return Verdict::Refused(Refusal::BadHouse);
     }
-    let found = scan(config, msg);
-    if found.number != 0 {
-        return Verdict::Refused(refusal(found.number));
+    let number = fault(config, msg);
+    if number != 0 {
+        return Verdict::Refused(refusal(number));
     }
     Verdict::Accepted
 }
 
-// The fields of a message but its value, or the refusal that `check` gives, beside a blank header.
+// The fields of a message but its value, or the refusal that `check` gives, beside a blank header. They are taken once the message has passed.
 pub fn fields(config: Config, msg: &[u8]) -> Fields
     ensures { λ r. ⌜ r ≡ fieldsAnswer config (now (msg .entry)) ⌝ }
 {
@@ -33,17 +41,16 @@ pub fn fields(config: Config, msg: &[u8]) -> Fields
             header: Header::blank(),
         };
     }
-    let found = scan(config, msg);
-    if found.number != 0 {
+    let number = fault(config, msg);
+    if number != 0 {
         return Fields {
-            verdict: Verdict::Refused(refusal(found.number)),
+            verdict: Verdict::Refused(refusal(number)),
             header: Header::blank(),
         };
     }
-    let header = found.header;
     Fields {
         verdict: Verdict::Accepted,
-        header,
+        header: header_in(config, msg),
     }
 }
 
@@ -54,11 +61,54 @@ pub fn value(config: Config, msg: &[u8]) -> &[u8]
     if !config.valid() {
         return &msg[..0];
     }
-    let part = scan(config, msg);
-    if part.number != 0 {
+    let refused = fault(config, msg);
+    if refused != 0 {
         return &msg[..0];
     }
-    let from = part.from;
-    let end = from + (part.length as usize);
+    let register = register_in(config, msg);
+    let from = register.from;
+    let end = from + (register.length as usize);
     &msg[from..end]
+}
+
+// The weight of a server on a message's sheet: the refusal that `check` gives, then 1 for the server.
+pub fn weight(config: Config, server: u64, msg: &[u8]) -> Signed
+    ensures { λ r. ⌜ r ≡ weightIn config server (now (msg .entry)) ⌝ }
+{
+    if !config.valid() {
+        return Signed::Refused(Refusal::BadHouse);
+    }
+    let mut received: [u64; 16] = [0; 16];
+    let mut given: [u64; 16] = [0; 16];
+    let number = scan(config, msg, &mut received, &mut given);
+    if number != 0 {
+        return Signed::Refused(refusal(number));
+    }
+    if !config.has(server) {
+        return Signed::Refused(Refusal::BadHouse);
+    }
+    Signed::Value(weight_of(config, &received, &given, server))
+}
+
+// Whether the servers that a map names are a quorum on a message's sheet: the refusal that `check` gives, then 1 for the map.
+pub fn quorum(config: Config, map: u64, msg: &[u8]) -> Decision
+    ensures { λ r. ⌜ r ≡ quorumIn config map (now (msg .entry)) ⌝ }
+{
+    if !config.valid() {
+        return Decision::Refused(Refusal::BadHouse);
+    }
+    let mut received: [u64; 16] = [0; 16];
+    let mut given: [u64; 16] = [0; 16];
+    let number = scan(config, msg, &mut received, &mut given);
+    if number != 0 {
+        return Decision::Refused(refusal(number));
+    }
+    let n = config.n as u32;
+    if map >> n != 0 {
+        return Decision::Refused(Refusal::BadHouse);
+    }
+    if is_quorum(config, &received, &given, map) {
+        return Decision::Yes;
+    }
+    Decision::No
 }

@@ -1,68 +1,71 @@
-// A whole message, in one pass over its bytes.
+// Whether a message passes, in one pass over its bytes; of its sheet only what each server received and gave is kept.
 use super::cursor::MOST_FOUR;
 use super::cursor::bit;
 use super::cursor::read_number;
 use super::cursor::require;
 use super::head::read_head;
 use super::register::read_register;
-use super::sheet::read_sheet;
+use super::sums::above_floor;
+use super::weigh::weigh_sheet;
 use config::Config;
-use config::Verdict;
-use ledger::Ledger;
 use message::Cursor;
-use message::Header;
-use message::Scan;
-use message::Tag;
 ghost use mathlib.Core.Path.{_≡_};
 ghost use mathlib.Core.Bool.{true};
-ghost use Prim.Native.Nat.{_≤_};
-ghost use lib.ListN.{length};
+ghost use lib.Dec.{eqb};
+ghost use lib.ListN.{length, replicate};
 ghost use Rattle.config.specs.Cluster.{validOf};
-ghost use Rattle.message.specs.Scans.{endOf, scanOf};
+ghost use Rattle.ledger.specs.Ledgers.{receivedOf, givenOf};
+ghost use Rattle.ledger.specs.Tables.{table};
+ghost use Rattle.message.specs.Cursors.{require as requireOf};
+ghost use Rattle.message.specs.Scans.{scanOf};
+ghost use Rattle.reader.specs.Sums.{Sums, allAbove};
 
 // No bytes are left over, and every weight is above the floor.
-pub(crate) fn finish(config: Config, msg: &[u8], ledger: Ledger, note: Cursor) -> Cursor
-    requires { ⌜ validOf config ≡ true ⌝ }
-    ensures { λ r. ⌜ r ≡ endOf config (now (msg .entry)) ledger note ⌝ }
+pub(crate) fn finish(
+    config: Config,
+    msg: &[u8],
+    received: &[u64],
+    given: &[u64],
+    note: Cursor,
+) -> Cursor
+    requires { ⌜ (validOf config ≡ true) × Sums (now received) × Sums (now given) ⌝ }
+    ensures { λ r. ⌜ r ≡ requireOf (allAbove config (now (received .entry)) (now (given .entry))) 5 (requireOf (eqb (note .at) (length (now (msg .entry)))) 2 note) ⌝ }
 {
     let all = require(note.at == msg.len(), 2, note);
     if all.number != 0 {
         return all;
     }
-    match ledger.check_floor(config) {
-        Verdict::Accepted => require(true, 5, all),
-        Verdict::Refused(_) => require(false, 5, all),
-    }
+    require(above_floor(config, received, given), 5, all)
 }
 
-pub(crate) fn scan(config: Config, msg: &[u8]) -> Scan
-    requires { ⌜ validOf config ≡ true ⌝ }
-    ensures { λ r. ⌜ r ≡ scanOf config (now (msg .entry)) ⌝ }
+// The number of the first fault, or 0, with what each server received and gave into two lists of zeros.
+pub(crate) fn scan(config: Config, msg: &[u8], received: &mut [u64], given: &mut [u64]) -> u64
+    requires { ⌜ (validOf config ≡ true) × (now received ≡ replicate 16 0) × (now given ≡ replicate 16 0) ⌝ }
+    ensures { λ r. ⌜ (r ≡ scanOf config (now (msg .entry)) .number) × (now (received .exit) ≡ table 16 (receivedOf (scanOf config (now (msg .entry)) .header .ledger))) × (now (given .exit) ≡ table 16 (givenOf (scanOf config (now (msg .entry)) .header .ledger))) ⌝ }
 {
     let head = read_head(config, msg);
     let after_head = head.cursor;
     let register = read_register(config, msg, bit(head.map, 4), after_head);
     let after_register = register.cursor;
-    let sheet = read_sheet(config, msg, bit(head.map, 5), after_register);
-    let after_sheet = sheet.cursor;
-    let ledger = sheet.ledger;
-    let note = read_number(msg, bit(head.map, 6), 4, 1, MOST_FOUR, after_sheet);
-    let end = finish(config, msg, ledger, note);
-    Scan {
-        number: end.number,
-        header: Header {
-            kind: head.kind as u8,
-            server: head.server as u8,
-            desk: head.desk as u16,
-            round: head.round as u32,
-            tag: Tag {
-                stamp: register.stamp as u32,
-                desk: register.desk as u16,
-            },
-            ledger,
-            note: note.x as u32,
-        },
-        from: register.from,
-        length: register.length,
-    }
+    let sheet = weigh_sheet(
+        config,
+        msg,
+        bit(head.map, 5),
+        after_register,
+        received,
+        given,
+    );
+    let note = read_number(msg, bit(head.map, 6), 4, 1, MOST_FOUR, sheet);
+    let end = finish(config, msg, received, given, note);
+    end.number
+}
+
+// The same, where the weights are not asked for.
+pub(crate) fn fault(config: Config, msg: &[u8]) -> u64
+    requires { ⌜ validOf config ≡ true ⌝ }
+    ensures { λ r. ⌜ r ≡ scanOf config (now (msg .entry)) .number ⌝ }
+{
+    let mut received: [u64; 16] = [0; 16];
+    let mut given: [u64; 16] = [0; 16];
+    scan(config, msg, &mut received, &mut given)
 }

@@ -49,7 +49,7 @@ loop-again c =
     (omega arith, next, byte-more (l .k) (l .x) _ (l .inv .2) (omega (arith, c .wide .ensures .1)))
 
 returns : tie.Need-returns Inv-loop μ-loop
-returns c = let e : c .before .loop .k ≡ c .before .before .before .args .width = omega arith in rw e at (c .before .loop .inv .1)
+returns c = let e : c .before .loop .k ≡ c .before .before .before .args .width = omega arith in (rw e at (c .before .loop .inv .1), rw e at (c .before .loop .inv .2))
 
 pub number-at-spec : {M : Type 1} → statement M
 number-at-spec =

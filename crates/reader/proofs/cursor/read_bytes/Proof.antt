@@ -37,7 +37,7 @@ stay-requires-2 c κs = search needs
 returns-2 : tie.Need-returns-2
 unfolding readBytes within
 returns-2 c =
-    rw (c .stay2 .ensures) (simp (there (c .before .before .before), sym (c .before .before .number-at .ensures), lt-leb _ _ (c .before .if2 .taken)), omega arith, omega arith)
+    rw (c .stay2 .ensures) (simp (there (c .before .before .before), sym (c .before .before .number-at .ensures .0), lt-leb _ _ (c .before .if2 .taken)), omega arith, omega arith)
 
 stay-requires-3 : tie.Need-stay-requires-3
 stay-requires-3 c κs = search needs
@@ -46,7 +46,7 @@ returns-3 : tie.Need-returns-3
 unfolding readBytes within
 returns-3 c =
     rw (c .stay3 .ensures)
-    (simp (there (c .before .before .before .before), sym (c .before .before .before .number-at .ensures), le-leb _ _ (c .before .before .if2 .left), lt-leb _ _ (c .before .if3 .taken)), omega arith, omega arith)
+    (simp (there (c .before .before .before .before), sym (c .before .before .before .number-at .ensures .0), le-leb _ _ (c .before .before .if2 .left), lt-leb _ _ (c .before .if3 .taken)), omega arith, omega arith)
 
 add-t8 : tie.Need-add-t8
 add-t8 c = search needs
@@ -54,7 +54,7 @@ add-t8 c = search needs
 returns-4 : tie.Need-returns-4
 unfolding readBytes within
 returns-4 c =
-    (simp (there (c .before .before .before), sym (c .before .before .number-at .ensures), le-leb _ _ (c .before .if2 .left), le-leb _ _ (c .if3 .left)), omega arith, omega arith)
+    (simp (there (c .before .before .before), sym (c .before .before .number-at .ensures .0), le-leb _ _ (c .before .if2 .left), le-leb _ _ (c .if3 .left)), omega arith, omega arith)
 
 pub read-bytes-spec : {M : Type 1} → statement M
 read-bytes-spec =

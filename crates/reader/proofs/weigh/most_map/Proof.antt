@@ -3,8 +3,8 @@ use native.Mathlib.Omega.{arith}
 use borrow.Author.Needs.{needs}
 use lib.Pow.{pow-pos, pow-mono}
 use Rattle.config.proofs.Clusters.{valid-bounds}
-use Rattle.reader.proofs.sheet.most_map.Statement.{statement}
-use Rattle.reader.proofs.sheet.most_map.Tie as tie
+use Rattle.reader.proofs.weigh.most_map.Statement.{statement}
+use Rattle.reader.proofs.weigh.most_map.Tie as tie
 
 cast-n : tie.Need-cast-n
 cast-n c = omega (arith, valid-bounds _ (c .before .pre))

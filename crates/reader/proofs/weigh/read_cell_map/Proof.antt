@@ -5,8 +5,8 @@ use borrow.Author.Needs.{needs}
 use lib.Dec.{eqb}
 use Rattle.message.specs.Cursors.{require}
 use Rattle.message.specs.Scans.{cellMapOf}
-use Rattle.reader.proofs.sheet.read_cell_map.Statement.{statement}
-use Rattle.reader.proofs.sheet.read_cell_map.Tie as tie
+use Rattle.reader.proofs.weigh.read_cell_map.Statement.{statement}
+use Rattle.reader.proofs.weigh.read_cell_map.Tie as tie
 
 most-map-requires : tie.Need-most-map-requires
 most-map-requires c κs = search needs
@@ -26,7 +26,7 @@ returns c =
     let most = c .before .before .before .most-map .ensures in
     let number = c .before .before .read-number in
     let own : c .require .result ≡ require (eqb (c .before .bit .result) 0) 4 (number .result) = c .require .ensures .0 in
-    (rw (← most .0, ← number .ensures .0, ← c .before .bit .ensures .0) own, omega (arith, c .require .ensures, number .ensures))
+    (rw (← most .0, ← number .ensures .0, ← c .before .bit .ensures .0) own, omega (arith, c .require .ensures, number .ensures), omega (arith, c .require .ensures .2, number .ensures .2, most .1))
 
 pub read-cell-map-spec : {M : Type 1} → statement M
 read-cell-map-spec =

@@ -1,0 +1,143 @@
+-- Weights and quorums from what each server received and gave: as the program computes them, and as they are on a ledger.
+use Prim.Native.Nat.{ℕ, _+_, _*_, _/_, _%_, _^_, _≤_, _<_}
+use native.Mathlib.Omega.{arith}
+use mathlib.Core.Path.{_≡_, sym, ap, ap₂, _∙_, subst}
+use mathlib.Core.Bool.{Bool, true, false, cond}
+use mathlib.Core.List.{List}
+use borrow.Author.Tests.{eq-eqb, ne-eqb}
+use lib.Dec.{leb, ltb}
+use lib.ListN.{getD}
+use lib.IntN.{_-ℤ_}
+use mir.Syntax.{w64}
+use mir.Val.{SFits, toZ}
+use mir.Facts.{toZ-pos}
+use Rattle.quorums.specs.Sum.{sumIn}
+use Rattle.quorums.specs.Difference.{difference}
+use Rattle.quorums.specs.Accounts.{held, weight, total, quorum}
+use Rattle.quorums.proofs.Sums.{all-same, sumIn-same}
+use Rattle.quorums.proofs.Differences.{pos-less, difference-mag}
+use Rattle.quorums.proofs.Weights.{quorum-is}
+use Rattle.config.specs.Cluster.{validOf, serverOf, startOf, totalOf, aboveOf, startAnswer, totalAnswer, leastAnswer}
+use Rattle.config.specs.declared.cluster.Config.{Config}
+use Rattle.config.specs.declared.answer.Number.{Number}
+use Rattle.config.specs.declared.answer.Refusal.{Refusal}
+use Rattle.config.proofs.Clusters.{valid-server, server-small, valid-bounds, above-least, start-small, least-small, total-small, start-told, start-refused, least-told, least-refused, total-told, total-refused}
+use Rattle.ledger.specs.declared.ledger.Ledger.{Ledger}
+use Rattle.ledger.specs.Ledgers.{cellOf, receivedOf, givenOf, accountsOf, Typed}
+use Rattle.ledger.specs.Maps.{named}
+use Rattle.ledger.specs.Weights.{weightOf, quorumOf}
+use Rattle.ledger.specs.Checks.{aboveFloor}
+use Rattle.ledger.specs.Tables.{table}
+use Rattle.ledger.proofs.Tables.{table-length, table-at}
+use Rattle.reader.specs.Sums.{accountsIn, allAbove, Sums}
+use Rattle.reader.proofs.Tallies.{bounded}
+use Rattle.reader.proofs.Weighed.{sum-most}
+
+-- ---- answers
+
+-- a cluster within bounds is never refused, nor is a server of it
+never : false ≡ true → ⊥
+never e = let z : _≡_ {A = ℕ} 0 1 = cc in omega arith
+
+pub start-stands : (c : Config) (i : ℕ) (r : Refusal) → serverOf c i ≡ true → startAnswer c i ≡ Number.Refused r → ⊥
+start-stands c i r s e = never (sym (start-refused c i r e) ∙ s)
+
+pub least-stands : (c : Config) (r : Refusal) → validOf c ≡ true → leastAnswer c ≡ Number.Refused r → ⊥
+least-stands c r v e = never (sym (least-refused c r e) ∙ v)
+
+pub total-stands : (c : Config) (r : Refusal) → validOf c ≡ true → totalAnswer c ≡ Number.Refused r → ⊥
+total-stands c r v e = never (sym (total-refused c r e) ∙ v)
+
+-- what is answered is small
+pub start-bound : (c : Config) (i start : ℕ) → startAnswer c i ≡ Number.Value start → start ≤ 16000
+start-bound c i start e = omega (arith, start-told c i start e .1, start-small c i)
+
+pub least-bound : (c : Config) (least : ℕ) → leastAnswer c ≡ Number.Value least → least ≤ 16001
+least-bound c least e = omega (arith, least-told c least e .1, least-small c (least-told c least e .0))
+
+pub total-bound : (c : Config) (W : ℕ) → totalAnswer c ≡ Number.Value W → W ≤ 16000
+total-bound c W e = omega (arith, total-told c W e .1, total-small c (total-told c W e .0))
+
+-- ---- as the program computes them
+
+abbrev pub aboveAt : Config → List ℕ → List ℕ → ℕ → Bool
+aboveAt c r g i = aboveOf c (weight (accountsIn c r g) i)
+
+-- the test of one server
+pub above-at : (c : Config) (r g : List ℕ) (i start least : ℕ) → validOf c ≡ true → startAnswer c i ≡ Number.Value start → leastAnswer c ≡ Number.Value least
+    → aboveAt c r g i ≡ leb (getD g i 0 + least) (start + getD r i 0)
+unfolding weight
+above-at c r g i start least v s e =
+    above-least c (startOf c i + getD r i 0) (getD g i 0) v
+    ∙ ap₂ (λ x y. leb (getD g i 0 + x) (y + getD r i 0)) (sym (least-told c least e .1)) (sym (start-told c i start s .1))
+
+-- two small numbers, subtracted as signed ones
+pub gap-is : (a b : ℕ) → a ≤ 68719492720 → b ≤ 68719492720 → toZ w64 a -ℤ toZ w64 b ≡ difference a b
+gap-is a b h k = ap₂ _-ℤ_ (toZ-pos w64 {n = a} (omega arith)) (toZ-pos w64 {n = b} (omega arith)) ∙ pos-less a b
+
+pub gap-fits : (a b : ℕ) → a ≤ 68719492720 → b ≤ 68719492720 → SFits w64 (toZ w64 a -ℤ toZ w64 b)
+gap-fits a b h k = subst (SFits w64) (sym (gap-is a b h k)) (record { sfits = difference-mag a b (2 ^ 63) (omega arith) (omega arith) })
+
+-- the weight of one server
+pub weight-at : (c : Config) (r g : List ℕ) (i start : ℕ) → startAnswer c i ≡ Number.Value start → difference (start + getD r i 0) (getD g i 0) ≡ weight (accountsIn c r g) i
+unfolding weight
+weight-at c r g i start e = ap (λ s. difference (s + getD r i 0) (getD g i 0)) (start-told c i start e .1)
+
+-- a server that a map names counts, and one that it does not name does not
+pub named-counts : (m i x y z : ℕ) → m / 2 ^ i % 2 ≡ 1 → z ≡ x + y → z ≡ x + cond (named m i) y 0
+unfolding named
+named-counts m i x y z t e = rw (eq-eqb (m / 2 ^ i % 2) 1 t) e
+
+pub unnamed-counts : (m i x y z : ℕ) → (m / 2 ^ i % 2 ≡ 1 → ⊥) → z ≡ x → z ≡ x + cond (named m i) y 0
+unfolding named
+unnamed-counts m i x y z t e = rw (ne-eqb (m / 2 ^ i % 2) 1 t) (omega arith)
+
+pub counts-most : (b : Bool) (x : ℕ) → cond b x 0 ≤ x
+counts-most true x = omega arith
+counts-most false x = omega arith
+
+-- the test of the sums of those that a map names
+pub quorum-at : (c : Config) (r g : List ℕ) (m W h k : ℕ) → totalAnswer c ≡ Number.Value W
+    → h ≡ sumIn (c .n) (named m) (held (accountsIn c r g))
+    → k ≡ sumIn (c .n) (named m) (λ i. getD g i 0)
+    → ltb (2 * k + W) (2 * h) ≡ quorum (c .n) (accountsIn c r g) (named m)
+unfolding total totalOf
+quorum-at c r g m W h k e p q = rw (total-told c W e .1, p, q) (sym (quorum-is (c .n) (accountsIn c r g) (named m)))
+
+-- ---- on a ledger
+
+-- The weight of a server is its weight on the ledger.
+pub sums-weight : (c : Config) (l : Ledger) (i : ℕ) → serverOf c i ≡ true → weight (accountsIn c (table 16 (receivedOf l)) (table 16 (givenOf l))) i ≡ weightOf c l i
+unfolding weightOf weight
+sums-weight c l i s =
+    ap₂ (λ r g. difference (startOf c i + r) g) (table-at 16 (receivedOf l) i (server-small c i s)) (table-at 16 (givenOf l) i (server-small c i s))
+
+-- Every weight is above the floor exactly when every one on the ledger is.
+pub sums-above : (c : Config) (l : Ledger) → validOf c ≡ true → allAbove c (table 16 (receivedOf l)) (table 16 (givenOf l)) ≡ aboveFloor c l
+unfolding aboveFloor
+sums-above c l v = all-same (c .n) _ _ (λ i k. ap (aboveOf c) (sums-weight c l i (valid-server c i v k)))
+
+-- A map names a quorum exactly when it names one on the ledger.
+pub sums-quorum : (c : Config) (l : Ledger) (m : ℕ) → validOf c ≡ true
+    → quorum (c .n) (accountsIn c (table 16 (receivedOf l)) (table 16 (givenOf l))) (named m) ≡ quorumOf c l m
+unfolding quorumOf total
+sums-quorum c l m v =
+    quorum-is (c .n) (accountsIn c (table 16 (receivedOf l)) (table 16 (givenOf l))) (named m)
+    ∙ ap₂ (λ g h. ltb (2 * g + total (c .n) (accountsOf c l)) (2 * h)) (sumIn-same (c .n) (named m) _ _ (λ i k t. at (givenOf l) i k))
+    (sumIn-same (c .n) (named m) _ _ (λ i k t. ap (λ r. startOf c i + r) (at (receivedOf l) i k)))
+    ∙ sym (quorum-is (c .n) (accountsOf c l) (named m))
+  where
+    at : (f : ℕ → ℕ) (i : ℕ) → i < c .n → getD (table 16 f) i 0 ≡ f i
+    at f i k = table-at 16 f i (omega (arith, valid-bounds c v .most))
+
+-- The sums of a ledger that a call can have are small.
+pub sums-small : (f : ℕ → ℕ) → ((i : ℕ) → f i ≤ 68719476720) → Sums (table 16 f)
+sums-small f h = record { size = table-length 16 f; small = bounded (table 16 f) 68719476720 (table-length 16 f) (λ k l. subst (λ x. x ≤ 68719476720) (sym (table-at 16 f k l)) (h k)) }
+
+pub received-sums : (l : Ledger) → Typed l → Sums (table 16 (receivedOf l))
+unfolding receivedOf
+received-sums l t = sums-small (receivedOf l) (λ i. sum-most 16 (λ j. cellOf l j i) (λ j. t .cell-fits (j * 16 + i)))
+
+pub given-sums : (l : Ledger) → Typed l → Sums (table 16 (givenOf l))
+unfolding givenOf
+given-sums l t = sums-small (givenOf l) (λ i. sum-most 16 (λ j. cellOf l i j) (λ j. t .cell-fits (i * 16 + j)))

@@ -1,0 +1,114 @@
+-- `weight` meets its contract: the cluster, the number that the scan found, the server, and then the weight from the sums.
+use Prim.Native.Nat.{ℕ}
+use native.Mathlib.Omega.{arith}
+use mathlib.Core.Path.{_≡_, refl, sym, ap, ap₂, _∙_}
+use mathlib.Core.Bool.{true, false}
+use borrow.Author.Needs.{needs}
+use borrow.Author.Tests.{not-true, not-false}
+use Rattle.quorums.specs.Accounts.{weight}
+use Rattle.config.specs.Cluster.{validOf, serverOf}
+use Rattle.config.specs.declared.cluster.Config.{Config}
+use Rattle.config.specs.declared.answer.Refusal.{Refusal}
+use Rattle.config.specs.declared.answer.Signed.{Signed}
+use Rattle.ledger.specs.declared.ledger.Ledger.{Ledger}
+use Rattle.ledger.specs.Weights.{weightOf, weightAnswer}
+use Rattle.ledger.proofs.Answers.{read-back}
+use Rattle.message.specs.Scans.{scanOf}
+use Rattle.message.specs.Answers.{check, refusalOf}
+use Rattle.reader.specs.Sums.{accountsIn}
+use Rattle.reader.proofs.Weights.{sums-weight}
+use Rattle.reader.proofs.Answered.{check-invalid, check-found, received-small, given-small, weight-refused, weight-accepted}
+use Rattle.reader.proofs.read.weight.Statement.{statement}
+use Rattle.reader.proofs.read.weight.Tie as tie
+
+-- what is answered for a server that there isn't, and for one that there is
+refused : (c : Config) (l : Ledger) (i : ℕ) → serverOf c i ≡ false → Signed.Refused Refusal.BadHouse ≡ weightAnswer c l i
+unfolding weightAnswer
+refused c l i e = simp e
+
+answered : (c : Config) (l : Ledger) (i : ℕ) → serverOf c i ≡ true → Signed.Value (weightOf c l i) ≡ weightAnswer c l i
+unfolding weightAnswer
+answered c l i e = simp e
+
+valid-requires : tie.Need-valid-requires
+valid-requires c κs = search needs
+
+returns : tie.Need-returns
+unfolding refusalOf
+returns c =
+    let a = c .before .before .before .args in
+    let out : validOf (a .config) ≡ false = sym (c .before .valid .ensures) ∙ not-true _ (c .if1 .taken) in
+    weight-refused (a .config) (a .server) (a .msg .now) 1 (check-invalid _ _ out) (λ e. omega arith)
+
+valid : (c : tie.Else1) → validOf (c .before .before .before .args .config) ≡ true
+valid c = sym (c .before .valid .ensures) ∙ not-false _ (c .if1 .left)
+
+slice-aggregate-scan : tie.Need-slice-aggregate-scan
+slice-aggregate-scan c = search needs
+
+slice-aggregate-scan-2 : tie.Need-slice-aggregate-scan-2
+slice-aggregate-scan-2 c = search needs
+
+scan-requires : tie.Need-scan-requires
+scan-requires c κs = (valid (c .before .before), refl, refl)
+
+-- the check gives the number that was found
+number : (c : tie.After-scan) → check (c .before .before .before .before .before .before .args .config) (c .before .before .before .before .before .before .args .msg .now) ≡ c .scan .result
+number c = check-found _ _ _ (valid (c .before .before .before)) (c .scan .ensures .0)
+
+refusal-requires : tie.Need-refusal-requires
+refusal-requires c κs = search needs
+
+returns-2 : tie.Need-returns-2
+returns-2 c =
+    let scanned = c .before .before .before .before in
+    ap Signed.Refused (c .refusal .ensures) ∙ weight-refused _ _ _ _ (number scanned) (c .before .if2 .taken)
+
+has-requires : tie.Need-has-requires
+has-requires c κs = search needs
+
+returns-3 : tie.Need-returns-3
+returns-3 c =
+    let a = c .before .before .before .before .before .before .before .before .before .before .before .args in
+    let out : serverOf (a .config) (a .server) ≡ false = sym (c .before .has .ensures) ∙ not-true _ (c .if3 .taken) in
+    refused _ _ _ out ∙ weight-accepted _ _ _ (number (c .before .before .before .before .before) ∙ c .before .before .if2 .left)
+
+slice-aggregate-weight-of : tie.Need-slice-aggregate-weight-of
+slice-aggregate-weight-of c = search needs
+
+slice-aggregate-weight-of-2 : tie.Need-slice-aggregate-weight-of-2
+slice-aggregate-weight-of-2 c = search needs
+
+weight-of-requires : tie.Need-weight-of-requires
+weight-of-requires c κs =
+    let sums = c .before .before .before .before .before .before .before .scan .ensures in
+    (sym (c .before .before .before .has .ensures) ∙ not-false _ (c .before .before .if3 .left), received-small _ _ (sums .1), given-small _ _ (sums .2))
+
+returns-4 : tie.Need-returns-4
+returns-4 c =
+    let a = c .before .before .before .before .before .before .before .before .before .before .before .before .before .before .args in
+    let sums = c .before .before .before .before .before .before .before .before .scan .ensures in
+    let server : serverOf (a .config) (a .server) ≡ true = sym (c .before .before .before .before .has .ensures) ∙ not-false _ (c .before .before .before .if3 .left) in
+    let weight-is : c .weight-of .result ≡ weightOf (a .config) (scanOf (a .config) (a .msg .now) .header .ledger) (a .server) =
+    c .weight-of .ensures ∙ ap₂ (λ r g. weight (accountsIn (a .config) r g) (a .server)) (sums .1) (sums .2) ∙ sums-weight _ _ _ server in
+    ap Signed.Value (read-back (c .weight-of .result) (c .weight-of .ok) ∙ weight-is)
+    ∙ answered _ _ _ server
+    ∙ weight-accepted _ _ _ (number (c .before .before .before .before .before .before .before .before) ∙ c .before .before .before .before .before .if2 .left)
+
+pub weight-spec : {M : Type 1} → statement M
+weight-spec =
+    tie.close
+    (tie.spec
+    valid-requires
+    returns
+    slice-aggregate-scan
+    slice-aggregate-scan-2
+    scan-requires
+    refusal-requires
+    returns-2
+    has-requires
+    returns-3
+    slice-aggregate-weight-of
+    slice-aggregate-weight-of-2
+    weight-of-requires
+    returns-4)

@@ -1,0 +1,4 @@
+-- Definitions.
+pub mod Steps
+pub mod Sums
+pub mod Weighings

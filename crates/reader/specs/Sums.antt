@@ -1,0 +1,27 @@
+-- What each server of a message's sheet received and gave, as two lists of 16 sums: weights need no more of a sheet.
+use Prim.Native.Nat.{ℕ, _≤_}
+use mathlib.Core.Path.{_≡_}
+use mathlib.Core.Bool.{Bool}
+use mathlib.Core.List.{List}
+use lib.ListN.{length, getD}
+use Rattle.quorums.specs.Sum.{all}
+use Rattle.quorums.specs.Accounts.{Accounts, weight}
+use Rattle.config.specs.Cluster.{startOf, aboveOf}
+use Rattle.config.specs.declared.cluster.Config.{Config}
+
+abbrev pub accountsIn : Config → List ℕ → List ℕ → Accounts
+accountsIn c received given = record { start = startOf c; received = λ i. getD received i 0; given = λ i. getD given i 0 }
+
+-- whether every weight is above the floor
+abbrev pub allAbove : Config → List ℕ → List ℕ → Bool
+allAbove c received given = all (c .n) (λ i. aboveOf c (weight (accountsIn c received given) i))
+
+-- sums of up to 16 cells
+pub record Sums (l : List ℕ) : Type 0 where
+  pub size : length l ≡ 16
+  pub small : (k : ℕ) → getD l k 0 ≤ 68719476720
+
+-- 16 sums with room for one cell more each
+pub record Room (l : List ℕ) : Type 0 where
+  pub size : length l ≡ 16
+  pub room : (k : ℕ) → getD l k 0 ≤ 18446744069414584320

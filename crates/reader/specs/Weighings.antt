@@ -1,0 +1,19 @@
+-- What is answered about the weights of a message's sheet (paper 01, "Desk", last paragraph): 1 for the cluster, the message checks, then 1 for the
+-- server or the map.
+use Prim.Native.Nat.{ℕ}
+use mathlib.Core.Bool.{cond}
+use mathlib.Core.List.{List}
+use lib.Dec.{eqb}
+use Rattle.config.specs.declared.cluster.Config.{Config}
+use Rattle.config.specs.declared.answer.Signed.{Signed}
+use Rattle.config.specs.declared.answer.Decision.{Decision}
+use Rattle.ledger.specs.Weights.{weightAnswer, quorumAnswer}
+use Rattle.message.specs.Answers.{check, decode, refusalOf}
+
+unfoldable pub weightIn : Config → ℕ → List ℕ → Signed
+weightIn c server msg =
+    cond (eqb (check c msg) 0) (weightAnswer c (decode c msg .header .ledger) server) (Signed.Refused (refusalOf (check c msg)))
+
+unfoldable pub quorumIn : Config → ℕ → List ℕ → Decision
+quorumIn c map msg =
+    cond (eqb (check c msg) 0) (quorumAnswer c (decode c msg .header .ledger) map) (Decision.Refused (refusalOf (check c msg)))

@@ -1,0 +1,69 @@
+// Weights, from what each server received and gave.
+use config::Config;
+use config::Number;
+ghost use mathlib.Core.Path.{_≡_};
+ghost use mathlib.Core.Bool.{true};
+ghost use Rattle.quorums.specs.Accounts.{weight as weightOf, quorum as quorumOf};
+ghost use Rattle.config.specs.Cluster.{validOf, serverOf};
+ghost use Rattle.ledger.specs.Maps.{named};
+ghost use Rattle.reader.specs.Sums.{accountsIn, allAbove, Sums};
+
+// Whether every weight is above the floor.
+pub(crate) fn above_floor(config: Config, received: &[u64], given: &[u64]) -> bool
+    requires { ⌜ (validOf config ≡ true) × Sums (now received) × Sums (now given) ⌝ }
+    ensures { λ r. ⌜ r ≡ allAbove config (now (received .entry)) (now (given .entry)) ⌝ }
+{
+    let n = config.n as usize;
+    let Number::Value(least) = config.least() else {
+        return false;
+    };
+    let mut i: usize = 0;
+    while i < n {
+        let Number::Value(start) = config.start(i as u64) else {
+            return false;
+        };
+        if start + received[i] < given[i] + least {
+            return false;
+        }
+        i += 1;
+    }
+    true
+}
+
+// The weight of a server.
+pub(crate) fn weight_of(config: Config, received: &[u64], given: &[u64], server: u64) -> i64
+    requires { ⌜ (serverOf config server ≡ true) × Sums (now received) × Sums (now given) ⌝ }
+    ensures { λ r. ⌜ r ≡ weightOf (accountsIn config (now (received .entry)) (now (given .entry))) server ⌝ }
+{
+    let i = server as usize;
+    let Number::Value(start) = config.start(server) else {
+        return 0;
+    };
+    let held = start + received[i];
+    (held as i64) - (given[i] as i64)
+}
+
+// Whether the servers that a map names are a quorum: whether twice what they hold is above twice what they gave and W.
+pub(crate) fn is_quorum(config: Config, received: &[u64], given: &[u64], map: u64) -> bool
+    requires { ⌜ (validOf config ≡ true) × Sums (now received) × Sums (now given) ⌝ }
+    ensures { λ r. ⌜ r ≡ quorumOf (config .n) (accountsIn config (now (received .entry)) (now (given .entry))) (named map) ⌝ }
+{
+    let n = config.n as usize;
+    let Number::Value(total) = config.total() else {
+        return false;
+    };
+    let mut held: u64 = 0;
+    let mut gave: u64 = 0;
+    let mut i: usize = 0;
+    while i < n {
+        let Number::Value(start) = config.start(i as u64) else {
+            return false;
+        };
+        if (map >> (i as u32)) % 2 == 1 {
+            held = held + start + received[i];
+            gave = gave + given[i];
+        }
+        i += 1;
+    }
+    2 * gave + total < 2 * held
+}
