@@ -1,0 +1,3 @@
+-- Laws.
+pub mod Small
+pub mod Apart

@@ -1,0 +1,49 @@
+-- The numbers of refusals and of seats are small, so that they are signed numbers as they are.
+use Prim.Native.Nat.{ℕ, _-_, _≤_}
+use native.Mathlib.Omega.{arith}
+use mathlib.Core.Path.{_≡_, sym}
+use mathlib.Core.List.{List}
+use lib.ListN.{length, getD}
+use lib.Dec.{leb}
+use borrow.Author.Tests.{leb-true}
+use Rattle.quorums.proofs.Tests.{chosen-first}
+use Rattle.quorums.proofs.Sums.{sum-le, sum-const}
+use Rattle.config.specs.Refusals.{numberOf}
+use Rattle.config.specs.declared.answer.Refusal.{Refusal}
+use Rattle.config.specs.declared.answer.Refusal.the-variants.{BadHouse, Torn, BadMap, OddField, Light, Clash, Stray, Busy, Idle, Thin, BadTransfer, Spent, Narrow, Long}
+use Rattle.config.specs.declared.answer.Number.{Number}
+use Rattle.seats.specs.Offers.{freeIn, offered, offerAnswer}
+use Rattle.format.specs.Bytes.{bit}
+
+pub number-most : (r : Refusal) → numberOf r ≤ 14
+number-most BadHouse = omega arith
+number-most Torn = omega arith
+number-most BadMap = omega arith
+number-most OddField = omega arith
+number-most Light = omega arith
+number-most Clash = omega arith
+number-most Stray = omega arith
+number-most Busy = omega arith
+number-most Idle = omega arith
+number-most Thin = omega arith
+number-most BadTransfer = omega arith
+number-most Spent = omega arith
+number-most Narrow = omega arith
+number-most Long = omega arith
+
+value-not-refused : (x : ℕ) (r : Refusal) → Number.Value x ≡ Number.Refused r → ⊥
+value-not-refused x r e = let z : _≡_ {A = ℕ} 0 1 = cc in omega arith
+
+-- a byte has at most 8 seats
+free-most : (byte : ℕ) → freeIn byte ≤ 8
+unfolding freeIn
+free-most byte = omega (arith, sum-le 8 (λ k. 1 - bit byte k) (λ k. 1) (λ k l. omega arith), sum-const 8 1)
+
+-- a block has at most 512 seats
+pub seats-most : (block : List ℕ) (x : ℕ) → offerAnswer block ≡ Number.Value x → x ≤ 512
+unfolding offerAnswer offered
+seats-most block x e =
+    let t = chosen-first (leb (length block) 64) _ _ _ (λ d. value-not-refused _ _ (sym d)) e in
+    let same : offered block ≡ x = cc in
+    let few = sum-le (length block) (λ i. freeIn (getD block i 0)) (λ i. 8) (λ i l. free-most (getD block i 0)) in
+    omega (arith, same, few, sum-const (length block) 8, leb-true (length block) 64 (t .0))

@@ -1,0 +1,30 @@
+-- `tovridsa_quorum` meets its contract: the code of the call's answer.
+use mathlib.Core.Path.{_≡_, ap, _∙_}
+use borrow.Author.Needs.{needs}
+use Rattle.reader.specs.Weighings.{quorumIn}
+use Rattle.ledger.proofs.Answers.{read-back}
+use Rattle.host.specs.Codes.{decisionCode, quorumCode}
+use Rattle.host.proofs.tovridsa_quorum.Statement.{statement}
+use Rattle.host.proofs.tovridsa_quorum.Tie as tie
+
+of-requires : tie.Need-of-requires
+of-requires c κs = search needs
+
+quorum-requires : tie.Need-quorum-requires
+quorum-requires c κs = search needs
+
+of-decision-requires : tie.Need-of-decision-requires
+of-decision-requires c κs = search needs
+
+returns : tie.Need-returns
+unfolding quorumCode
+returns c =
+    let a = c .before .before .before .before .args in
+    let asked : c .before .quorum .result ≡ quorumIn (c .before .before .of .result) (a .map) (a .msg .now) = c .before .quorum .ensures in
+    read-back (c .of-decision .result) (c .of-decision .ok)
+    ∙ c .of-decision .ensures
+    ∙ ap decisionCode (asked ∙ ap (λ config. quorumIn config (a .map) (a .msg .now)) (c .before .before .of .ensures))
+
+pub tovridsa-quorum-spec : {M : Type 1} → statement M
+tovridsa-quorum-spec =
+    tie.close (tie.spec of-requires quorum-requires of-decision-requires returns)

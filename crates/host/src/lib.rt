@@ -1,0 +1,52 @@
+// The functions that a C host calls (paper 01, "Desk", last paragraph): message check, weight, quorum and seats on offer. Each gives a signed number:
+// what was asked for, or for a refusal −1,000,000 less its number. include/tovridsa.h declares them to C.
+mod code;
+
+use code::of_decision;
+use code::of_refusal;
+use code::of_signed;
+use code::of_verdict;
+use config::Config;
+use config::Number;
+use reader::check;
+use reader::quorum;
+use reader::weight;
+use seats::on_offer;
+ghost use mathlib.Core.Path.{_≡_};
+ghost use Rattle.config.specs.Cluster.{configOf};
+ghost use Rattle.host.specs.Codes.{checkCode, weightCode, quorumCode, seatsCode};
+
+// 0 for a message that passes.
+#[no_mangle]
+pub extern "C" fn tovridsa_check(n: u64, f: u64, msg: &[u8]) -> i64
+    ensures { λ r. ⌜ r ≡ checkCode (configOf n f) (now (msg .entry)) ⌝ }
+{
+    of_verdict(check(Config::of(n, f), msg))
+}
+
+// The weight of a server on a message's sheet.
+#[no_mangle]
+pub extern "C" fn tovridsa_weight(n: u64, f: u64, server: u64, msg: &[u8]) -> i64
+    ensures { λ r. ⌜ r ≡ weightCode (configOf n f) server (now (msg .entry)) ⌝ }
+{
+    of_signed(weight(Config::of(n, f), server, msg))
+}
+
+// 1 where the servers that a map names are a quorum on a message's sheet, else 0.
+#[no_mangle]
+pub extern "C" fn tovridsa_quorum(n: u64, f: u64, map: u64, msg: &[u8]) -> i64
+    ensures { λ r. ⌜ r ≡ quorumCode (configOf n f) map (now (msg .entry)) ⌝ }
+{
+    of_decision(quorum(Config::of(n, f), map, msg))
+}
+
+// How many seats of a block are on offer.
+#[no_mangle]
+pub extern "C" fn tovridsa_seats(block: &[u8]) -> i64
+    ensures { λ r. ⌜ r ≡ seatsCode (now (block .entry)) ⌝ }
+{
+    match on_offer(block) {
+        Number::Value(seats) => seats as i64,
+        Number::Refused(r) => of_refusal(r),
+    }
+}

@@ -1,0 +1,80 @@
+/*
+ * A C host looks at what came over the network: it checks messages, weighs servers, asks for quorums, and counts the seats of a block. Each answer
+ * that is a refusal is shown by its number and word.
+ */
+#include "tovridsa.h"
+
+#include <inttypes.h>
+#include <stdio.h>
+
+/* A cluster of five servers, of which one may crash. */
+enum { SERVERS = 5, CRASHES = 1 };
+
+/* A share from server 0 after it gave 200 to server 2. */
+static const uint8_t share[] = {0x00, 0x23, 0x03, 0x00, 0x00, 0x01, 0x00, 0x01, 0x00, 0x04, 0x00, 0x00, 0x00, 0xC8};
+
+/* The same after it gave 375: one more than it can spare. */
+static const uint8_t light[] = {0x00, 0x23, 0x03, 0x00, 0x00, 0x01, 0x00, 0x01, 0x00, 0x04, 0x00, 0x00, 0x01, 0x77};
+
+/* A block of 16 seats, of which five are sold. */
+static const uint8_t block[] = {0xA0, 0x07};
+
+static const char *word(int refusal)
+{
+    switch (refusal) {
+    case TOVRIDSA_BAD_HOUSE:
+        return "bad house";
+    case TOVRIDSA_TORN:
+        return "torn";
+    case TOVRIDSA_BAD_MAP:
+        return "bad map";
+    case TOVRIDSA_ODD_FIELD:
+        return "odd field";
+    case TOVRIDSA_LIGHT:
+        return "light";
+    case TOVRIDSA_LONG:
+        return "long";
+    default:
+        return "?";
+    }
+}
+
+static void show(const char *question, int64_t answer)
+{
+    int refusal = tovridsa_refusal(answer);
+
+    printf("%-48s %" PRId64, question, answer);
+    if (refusal != 0)
+        printf("  refused: %d, %s", refusal, word(refusal));
+    printf("\n");
+}
+
+int main(void)
+{
+    uint8_t none[65] = {0};
+    char question[64];
+
+    show("check the share", tovridsa_check(SERVERS, CRASHES, share, sizeof share));
+    for (uint64_t server = 0; server < SERVERS; server++) {
+        snprintf(question, sizeof question, "weight of server %" PRIu64, server);
+        show(question, tovridsa_weight(SERVERS, CRASHES, server, share, sizeof share));
+    }
+    show("are servers 2, 3 and 4 a quorum", tovridsa_quorum(SERVERS, CRASHES, 0x1C, share, sizeof share));
+    show("are servers 0, 1 and 3", tovridsa_quorum(SERVERS, CRASHES, 0x0B, share, sizeof share));
+    show("are servers 2 and 4", tovridsa_quorum(SERVERS, CRASHES, 0x14, share, sizeof share));
+    show("seats on offer", tovridsa_seats(block, sizeof block));
+    show("seats of the empty block", tovridsa_seats(NULL, 0));
+
+    printf("\n");
+    show("check it without its last byte", tovridsa_check(SERVERS, CRASHES, share, sizeof share - 1));
+    show("check an empty message", tovridsa_check(SERVERS, CRASHES, NULL, 0));
+    show("check zeros", tovridsa_check(SERVERS, CRASHES, none, sizeof none));
+    show("check it for a cluster of two servers", tovridsa_check(2, 0, share, sizeof share));
+    show("check a share that gave too much", tovridsa_check(SERVERS, CRASHES, light, sizeof light));
+    show("check it for five servers of which three may crash", tovridsa_check(SERVERS, 3, share, sizeof share));
+    show("weight of server 5", tovridsa_weight(SERVERS, CRASHES, 5, share, sizeof share));
+    show("weight of server 2^32", tovridsa_weight(SERVERS, CRASHES, UINT64_C(1) << 32, share, sizeof share));
+    show("is a map with bit 5 a quorum", tovridsa_quorum(SERVERS, CRASHES, 0x3F, share, sizeof share));
+    show("seats of a block of 65 bytes", tovridsa_seats(none, sizeof none));
+    return 0;
+}
