@@ -1,0 +1,58 @@
+//! The four answers that a C host gets, by the model: paper 01, the last
+//! paragraph of "Desk". Each is one signed number; a refusal k is −1,000,000 − k.
+//! `proved` has the same four signatures over the proved library.
+
+use crate::format::{read, Message};
+use crate::place::{Fault, Place};
+use crate::seats::on_offer;
+use crate::weights::Config;
+
+/// The number for a server or a map out of bounds, the same as for the house.
+const BAD_HOUSE: u8 = Place::House.number();
+
+/// The number for a value or block over 64 bytes.
+const LONG: u8 = 14;
+
+/// A refusal as the C host gets it.
+pub fn refusal(number: u8) -> i64 {
+    -1_000_000 - i64::from(number)
+}
+
+/// The cluster and the message, or the first fault: the house comes first.
+pub fn open(n: u64, f: u64, msg: &[u8]) -> Result<(Config, Message<'_>), Fault> {
+    let config = Config::new(n, f)?;
+    Ok((config, read(config, msg)?))
+}
+
+/// 0 for a message that passes.
+pub fn check(n: u64, f: u64, msg: &[u8]) -> i64 {
+    match open(n, f, msg) {
+        Ok(_) => 0,
+        Err(fault) => refusal(fault.number),
+    }
+}
+
+/// The weight of a server by the message's sheet.
+pub fn weight(n: u64, f: u64, server: u64, msg: &[u8]) -> i64 {
+    match open(n, f, msg) {
+        Ok(_) if server >= n => refusal(BAD_HOUSE),
+        Ok((_, message)) => message.ledger.weights()[server as usize],
+        Err(fault) => refusal(fault.number),
+    }
+}
+
+/// 1 if the servers that the map names are a quorum by the message's sheet,
+/// otherwise 0.
+pub fn quorum(n: u64, f: u64, map: u64, msg: &[u8]) -> i64 {
+    match open(n, f, msg) {
+        Ok((config, _)) if !config.names_servers(map) => refusal(BAD_HOUSE),
+        // The map is below 2^n, so that no bit of it is lost.
+        Ok((config, message)) => message.ledger.is_quorum(config, map as u16).into(),
+        Err(fault) => refusal(fault.number),
+    }
+}
+
+/// The seats on offer in a block.
+pub fn seats(block: &[u8]) -> i64 {
+    on_offer(block).map_or(refusal(LONG), i64::from)
+}

@@ -1,0 +1,38 @@
+//! The same four answers by the proved library, `libhost.a`: paper 01, the last
+//! paragraph of "Desk". The functions have no precondition but a pointer that
+//! is valid for its length, so every slice is fine and the wrappers are safe.
+
+extern "C" {
+    fn tovridsa_check(n: u64, f: u64, msg: *const u8, len: usize) -> i64;
+    fn tovridsa_weight(n: u64, f: u64, server: u64, msg: *const u8, len: usize) -> i64;
+    fn tovridsa_quorum(n: u64, f: u64, map: u64, msg: *const u8, len: usize) -> i64;
+    fn tovridsa_seats(block: *const u8, len: usize) -> i64;
+}
+
+/// 0 for a message that passes.
+pub fn check(n: u64, f: u64, msg: &[u8]) -> i64 {
+    // SAFETY: the pointer of a slice is not null and is valid for reads of its
+    // length, during the whole call; the function only reads those bytes and
+    // keeps no pointer. The numbers are passed by value and may be any.
+    unsafe { tovridsa_check(n, f, msg.as_ptr(), msg.len()) }
+}
+
+/// The weight of a server by the message's sheet.
+pub fn weight(n: u64, f: u64, server: u64, msg: &[u8]) -> i64 {
+    // SAFETY: as in `check`; a server of n or more is refused by the function.
+    unsafe { tovridsa_weight(n, f, server, msg.as_ptr(), msg.len()) }
+}
+
+/// 1 if the servers that the map names are a quorum by the message's sheet,
+/// otherwise 0.
+pub fn quorum(n: u64, f: u64, map: u64, msg: &[u8]) -> i64 {
+    // SAFETY: as in `check`; a map bit of n or more is refused by the function.
+    unsafe { tovridsa_quorum(n, f, map, msg.as_ptr(), msg.len()) }
+}
+
+/// The seats on offer in a block.
+pub fn seats(block: &[u8]) -> i64 {
+    // SAFETY: as in `check`, with the block for the message; a block that is
+    // too long is refused by the function.
+    unsafe { tovridsa_seats(block.as_ptr(), block.len()) }
+}
