@@ -1,0 +1,16 @@
+/* The message check, a weight, a quorum and the seats on offer in plain C, written by hand: what the proved library is timed against.
+ *
+ * Each call gives 0 for a message that passes, the weight, 1 or 0 for a quorum, or the seats; a refusal with the number k is -1000000 - k.
+ * `msg` and `block` point to `len` bytes that can be read; with `len` 0 the pointer is not looked at. */
+#ifndef PLAIN_H
+#define PLAIN_H
+
+#include <stddef.h>
+#include <stdint.h>
+
+int64_t plain_check(uint64_t n, uint64_t f, const uint8_t *msg, size_t len);
+int64_t plain_weight(uint64_t n, uint64_t f, uint64_t server, const uint8_t *msg, size_t len);
+int64_t plain_quorum(uint64_t n, uint64_t f, uint64_t map, const uint8_t *msg, size_t len);
+int64_t plain_seats(const uint8_t *block, size_t len);
+
+#endif
