@@ -1,8 +1,8 @@
 /*
  * Tovridsa for a C or C++ host: questions about messages and blocks of seats. Link target/staticlib/libhost.a, which `rt staticlib host` writes.
  *
- * Every function gives one signed 64-bit number: what was asked for, or, where the question is refused, -1,000,000 less the number of the refusal.
- * No answer but a refusal is below TOVRIDSA_REFUSED + 1: the least weight of a message that passes is above 0.
+ * Every function gives one signed 64-bit number: what was asked for, which is never below 0, or, where the question is refused, -1,000,000 less the
+ * number of the refusal.
  *
  * Nothing has to be checked before a call. Numbers are 64 bits wide and any value of them gets an answer; so does any sequence of bytes.
  *

@@ -1,6 +1,5 @@
 // The number of an answer.
 use config::Decision;
-use config::Number;
 use config::Refusal;
 use config::Signed;
 use config::Verdict;

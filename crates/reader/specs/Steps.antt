@@ -9,6 +9,6 @@ use Rattle.message.specs.Cursors.{stay}
 abbrev pub place : ℕ → Cursor
 place at = record { number = 0; at = at; x = 0 }
 
--- the cursor after 16 steps, of which the last 16 - j have nothing to read
+-- the cursor after 16 steps, of which the last 16 - j read nothing
 abbrev pub settled : ℕ → Cursor → Cursor
 settled j c = cond (ltb j 16) (stay (c .number) c) c

@@ -31,7 +31,7 @@ pub(crate) fn stay(number: u64, cursor: Cursor) -> Cursor
     }
 }
 
-// The cursor after 16 steps, of which the last 16 - j have nothing to read.
+// The cursor after 16 steps, of which the last 16 - j read nothing: their bits don't stand, or there is a fault.
 pub(crate) fn settle(j: usize, cursor: Cursor) -> Cursor
     ensures { λ r. ⌜ (r ≡ settled j cursor) × (r .at ≡ cursor .at) ⌝ }
 {
