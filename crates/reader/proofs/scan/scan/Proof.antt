@@ -55,10 +55,10 @@ returns c =
     let sheet-stands = c .before .before .before .before .before .before .before .before .before .before .before .before .bit2 .ensures .0 in
     let sheet = c .before .before .before .before .before .before .before .before .before .weigh-sheet .ensures in
     let register-is : register .result ≡ registerOf (a .config) (a .msg .now) (bit (head .result .map) 4) (head .result .cursor) = register .ensures .0 ∙ ap (λ s. registerOf (a .config) (a .msg .now) s (head .result .cursor)) stands in
-    let note-stands = c .before .before .before .before .bit3 .ensures .0 in
-    let note = c .before .before .before .read-number in
-    let note-is : note .result ≡ readNumber (a .msg .now) (bit (head .result .map) 6) 4 1 4294967295 (c .before .before .before .before .before .before .before .before .before .weigh-sheet .result) =
-    note .ensures .0 ∙ ap (λ s. readNumber (a .msg .now) s 4 1 4294967295 (c .before .before .before .before .before .before .before .before .before .weigh-sheet .result)) note-stands in (
+    let note-stands = c .before .before .before .before .bit3 in
+    let after-sheet = c .before .before .before .before .before .before .before .before .before .weigh-sheet .result in
+    let note : c .before .before .before .read-number .result ≡ readNumber (a .msg .now) (note-stands .result) 4 1 4294967295 after-sheet = c .before .before .before .read-number .ensures .0 in
+    let note-is = note ∙ ap (λ s. readNumber (a .msg .now) s 4 1 4294967295 after-sheet) (note-stands .ensures .0) in (
       number-is _ _ _ _ _ _ _ (head .ensures .0) register-is sheet-stands (sheet .1) (sheet .2) (c .before .before .before .before .before .before .before .before .before .before .before .before .before .before .before .before .before .before .before .before .before .pre .0) _ _ _ (sheet .0) note-is (c .finish .ensures),
       received-is _ _ _ _ _ _ _ (head .ensures .0) register-is sheet-stands (sheet .1) (sheet .2),
       given-is _ _ _ _ _ _ _ (head .ensures .0) register-is sheet-stands (sheet .1) (sheet .2),
