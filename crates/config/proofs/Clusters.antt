@@ -115,7 +115,7 @@ start-above c i v =
 
 -- ---- answers
 
-value-not-refused : (x : ℕ) (r : Refusal) → Number.Value x ≡ Number.Refused r → ⊥
+pub value-not-refused : (x : ℕ) (r : Refusal) → Number.Value x ≡ Number.Refused r → ⊥
 value-not-refused x r e = let z : _≡_ {A = ℕ} 0 1 = cc in omega arith
 
 told-value : (b : Bool) (x y : ℕ) → cond b (Number.Value x) (Number.Refused Refusal.BadHouse) ≡ Number.Value y → (b ≡ true) × (y ≡ x)

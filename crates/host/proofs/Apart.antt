@@ -22,6 +22,7 @@ use Rattle.config.specs.declared.answer.Refusal.{Refusal}
 use Rattle.config.specs.declared.answer.Signed.{Signed}
 use Rattle.ledger.specs.Ledgers.{accountsOf, givenOf}
 use Rattle.ledger.specs.Weights.{weightOf, weightAnswer}
+use Rattle.ledger.proofs.Answers.{signed-not-refused}
 use Rattle.ledger.specs.Checks.{aboveFloor}
 use Rattle.ledger.specs.declared.ledger.Ledger.{Ledger}
 use Rattle.message.specs.Scans.{endOf, scanOf}
@@ -35,9 +36,6 @@ use Rattle.host.specs.Codes.{refusalCode}
 pub refusal-is : (r : Refusal) → refusalCode r ≡ negsuc (999999 + numberOf r)
 unfolding refusalCode
 refusal-is r = difference-down 0 (1000000 + numberOf r) (omega arith) ∙ ap negsuc (omega arith)
-
-value-not-refused : (x : ℤ) (r : Refusal) → Signed.Value x ≡ Signed.Refused r → ⊥
-value-not-refused x r e = let z : _≡_ {A = ℕ} 0 1 = cc in omega arith
 
 -- a message that passes has no weight at the floor
 passed-above : (c : Config) (msg : List ℕ) → validOf c ≡ true → check c msg ≡ 0 → aboveFloor c (scanOf c msg .header .ledger) ≡ true
@@ -59,9 +57,9 @@ above-zero c l i e =
 pub weight-above : (c : Config) (server : ℕ) (msg : List ℕ) (w : ℤ) → weightIn c server msg ≡ Signed.Value w → ltZ (pos 0) w ≡ true
 unfolding weightIn weightAnswer serverOf aboveFloor
 weight-above c server msg w e =
-    let passes = chosen-first (eqb (check c msg) 0) _ _ _ (λ d. value-not-refused _ _ (sym d)) e in
+    let passes = chosen-first (eqb (check c msg) 0) _ _ _ (λ d. signed-not-refused _ _ (sym d)) e in
     let none : check c msg ≡ 0 = eqb-true _ _ (passes .0) in
-    let known = chosen-first (serverOf c server) _ _ _ (λ d. value-not-refused _ _ (sym d)) (passes .1) in
+    let known = chosen-first (serverOf c server) _ _ _ (λ d. signed-not-refused _ _ (sym d)) (passes .1) in
     let server-is = both (validOf c) _ (known .0) in
     let told : weightOf c (decode c msg .header .ledger) server ≡ w = cc in
     let above = all-each (c .n) _ (passed-above c msg (server-is .0) none) server (ltb-true _ _ (server-is .1)) in

@@ -8,6 +8,7 @@ use lib.Dec.{leb}
 use borrow.Author.Tests.{leb-true}
 use Rattle.quorums.proofs.Tests.{chosen-first}
 use Rattle.quorums.proofs.Sums.{sum-le, sum-const}
+use Rattle.config.proofs.Clusters.{value-not-refused}
 use Rattle.config.specs.Refusals.{numberOf}
 use Rattle.config.specs.declared.answer.Refusal.{Refusal}
 use Rattle.config.specs.declared.answer.Refusal.the-variants.{BadHouse, Torn, BadMap, OddField, Light, Clash, Stray, Busy, Idle, Thin, BadTransfer, Spent, Narrow, Long}
@@ -30,9 +31,6 @@ number-most BadTransfer = omega arith
 number-most Spent = omega arith
 number-most Narrow = omega arith
 number-most Long = omega arith
-
-value-not-refused : (x : ℕ) (r : Refusal) → Number.Value x ≡ Number.Refused r → ⊥
-value-not-refused x r e = let z : _≡_ {A = ℕ} 0 1 = cc in omega arith
 
 -- a byte has at most 8 seats
 free-most : (byte : ℕ) → freeIn byte ≤ 8

@@ -1,18 +1,19 @@
--- Weights, margins and quorums as the program computes them, and what an answer tells.
+-- Signed numbers, weights, margins and quorums as the program computes them, and what an answer tells.
 use Prim.Native.Nat.{ℕ, _+_, _*_, _^_, _<_}
 use native.Mathlib.Omega.{arith}
-use mathlib.Core.Path.{_≡_, refl, sym, ap₂}
+use mathlib.Core.Path.{_≡_, refl, sym, ap₂, _∙_, subst}
 use mathlib.Core.Bool.{true, false}
-use lib.IntN.{ℤ, pos}
+use lib.IntN.{ℤ, pos, _-ℤ_}
 use lib.Signed.{ltZ, mag}
 use mir.Syntax.{w64}
-use mir.Val.{toZ, ofZ}
-use mir.Facts.{toZ-ofZ}
+use mir.Val.{SFits, toZ, ofZ}
+use mir.Facts.{toZ-pos, toZ-ofZ}
 use Rattle.quorums.specs.Sum.{sumIn, all}
 use Rattle.quorums.specs.Difference.{difference}
 use Rattle.quorums.specs.Accounts.{held, weight, total, quorum}
 use Rattle.quorums.proofs.Tests.{chosen-first, chosen-second}
 use Rattle.quorums.proofs.Sums.{sumIn-set, all-each}
+use Rattle.quorums.proofs.Differences.{pos-less, difference-mag}
 use Rattle.quorums.proofs.Weights.{weightIn-is, margin-is}
 use Rattle.config.specs.Cluster.{validOf, totalOf}
 use Rattle.config.proofs.Clusters.{valid-bounds}
@@ -29,6 +30,13 @@ use Rattle.ledger.specs.Weights.{weightOf, allOf, marginOf, quorumOf, ma
 -- a signed number that fits is read back as itself
 pub read-back : (z : ℤ) → mag z < 2 ^ 63 → toZ w64 (ofZ w64 z) ≡ z
 read-back z h = toZ-ofZ (record { sfits = h })
+
+-- two numbers that are not large, subtracted as signed ones
+pub gap-is : (a b : ℕ) → a < 2 ^ 62 → b < 2 ^ 62 → toZ w64 a -ℤ toZ w64 b ≡ difference a b
+gap-is a b h k = ap₂ _-ℤ_ (toZ-pos w64 {n = a} (omega arith)) (toZ-pos w64 {n = b} (omega arith)) ∙ pos-less a b
+
+pub gap-fits : (a b : ℕ) → a < 2 ^ 62 → b < 2 ^ 62 → SFits w64 (toZ w64 a -ℤ toZ w64 b)
+gap-fits a b h k = subst (SFits w64) (sym (gap-is a b h k)) (record { sfits = difference-mag a b (2 ^ 63) (omega arith) (omega arith) })
 
 -- a weight, from a server's balance
 pub weight-balance : (c : Config) (l : Ledger) (i most : ℕ) (b : Balance) → Sides (held (accountsOf c l) i) (givenOf l i) most b → difference (b .held) (b .given) ≡ weightOf c l i
@@ -63,14 +71,14 @@ pub quorum-margin : (c : Config) (l : Ledger) (m : ℕ) → quorumOf c l m ≡ l
 unfolding quorumOf quorum marginOf
 quorum-margin c l m = refl
 
--- what an answer of `margin` tells
-value-not-refused : (x : ℤ) (r : Refusal) → Signed.Value x ≡ Signed.Refused r → ⊥
-value-not-refused x r e = let z : _≡_ {A = ℕ} 0 1 = cc in omega arith
+pub signed-not-refused : (x : ℤ) (r : Refusal) → Signed.Value x ≡ Signed.Refused r → ⊥
+signed-not-refused x r e = let z : _≡_ {A = ℕ} 0 1 = cc in omega arith
 
+-- what an answer of `margin` tells
 pub margin-told : (c : Config) (l : Ledger) (m : ℕ) (y : ℤ) → marginAnswer c l m ≡ Signed.Value y → (mapOf c m ≡ true) × (y ≡ marginOf c l m)
 unfolding marginAnswer
-margin-told c l m y e = let t = chosen-first (mapOf c m) _ _ _ (λ d. value-not-refused _ _ (sym d)) e in (t .0, cc)
+margin-told c l m y e = let t = chosen-first (mapOf c m) _ _ _ (λ d. signed-not-refused _ _ (sym d)) e in (t .0, cc)
 
 pub margin-refused : (c : Config) (l : Ledger) (m : ℕ) (r : Refusal) → marginAnswer c l m ≡ Signed.Refused r → mapOf c m ≡ false
 unfolding marginAnswer
-margin-refused c l m r e = chosen-second (mapOf c m) _ _ _ (value-not-refused _ _) e
+margin-refused c l m r e = chosen-second (mapOf c m) _ _ _ (signed-not-refused _ _) e

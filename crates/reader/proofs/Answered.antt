@@ -61,10 +61,10 @@ ledger-small : (c : Config) (msg : List ℕ) → Typed (scanOf c msg .header .le
 unfolding scanOf
 ledger-small c msg = ledger-typed c msg _ _
 
-pub received-small : (c : Config) (msg : List ℕ) {xs : List ℕ} → xs ≡ table 16 (receivedOf (scanOf c msg .header .ledger)) → Sums xs
+pub received-small : (c : Config) (msg : List ℕ) {xs : List ℕ} → xs ≡ table 16 (receivedOf (scanOf c msg .header .ledger)) → Sums 68719476720 xs
 received-small c msg e = rw e (received-sums _ (ledger-small c msg))
 
-pub given-small : (c : Config) (msg : List ℕ) {xs : List ℕ} → xs ≡ table 16 (givenOf (scanOf c msg .header .ledger)) → Sums xs
+pub given-small : (c : Config) (msg : List ℕ) {xs : List ℕ} → xs ≡ table 16 (givenOf (scanOf c msg .header .ledger)) → Sums 68719476720 xs
 given-small c msg e = rw e (given-sums _ (ledger-small c msg))
 
 -- an answer where the check gives a number, and where it gives none

@@ -16,9 +16,8 @@ use Rattle.message.specs.declared.state.HeadRead.{HeadRead}
 use Rattle.message.specs.declared.state.RegisterRead.{RegisterRead}
 use Rattle.message.specs.Cursors.{readNumber, require}
 use Rattle.message.specs.Scans.{headOf, registerOf, sheetOf, readNote, endOf, scanOf}
-use Rattle.message.proofs.SheetBacks.{ledger-typed}
-use Rattle.reader.specs.Sums.{Sums, allAbove}
-use Rattle.reader.proofs.Weights.{sums-above, received-sums, given-sums}
+use Rattle.reader.specs.Sums.{allAbove}
+use Rattle.reader.proofs.Weights.{sums-above}
 
 module _ (c : Config) (msg : List ℕ) (h : HeadRead) (r : RegisterRead) (stands : ℕ) (received given : List ℕ)
     (head : h ≡ headOf c msg)
@@ -34,12 +33,6 @@ module _ (c : Config) (msg : List ℕ) (h : HeadRead) (r : RegisterRead) (stands
     pub given-is : given ≡ table 16 (givenOf (scanOf c msg .header .ledger))
     unfolding scanOf
     given-is = rw (has-given, sheet-stands, register, head)
-
-    pub received-fits : Sums received
-    received-fits = rw has-received (received-sums _ (ledger-typed c msg stands (r .cursor)))
-
-    pub given-fits : Sums given
-    given-fits = rw has-given (given-sums _ (ledger-typed c msg stands (r .cursor)))
 
     pub number-is : validOf c ≡ true → (s n e : Cursor)
         → s ≡ sheetOf c msg stands (r .cursor) .cursor

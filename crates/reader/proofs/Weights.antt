@@ -7,15 +7,10 @@ use mathlib.Core.List.{List}
 use borrow.Author.Tests.{eq-eqb, ne-eqb}
 use lib.Dec.{leb, ltb}
 use lib.ListN.{getD}
-use lib.IntN.{_-ℤ_}
-use mir.Syntax.{w64}
-use mir.Val.{SFits, toZ}
-use mir.Facts.{toZ-pos}
 use Rattle.quorums.specs.Sum.{sumIn}
 use Rattle.quorums.specs.Difference.{difference}
 use Rattle.quorums.specs.Accounts.{held, weight, total, quorum}
 use Rattle.quorums.proofs.Sums.{all-same, sumIn-same}
-use Rattle.quorums.proofs.Differences.{pos-less, difference-mag}
 use Rattle.quorums.proofs.Weights.{quorum-is}
 use Rattle.config.specs.Cluster.{validOf, serverOf, startOf, totalOf, aboveOf, startAnswer, totalAnswer, leastAnswer}
 use Rattle.config.specs.declared.cluster.Config.{Config}
@@ -24,6 +19,7 @@ use Rattle.config.specs.declared.answer.Refusal.{Refusal}
 use Rattle.config.proofs.Clusters.{valid-server, server-small, valid-bounds, above-least, start-small, least-small, total-small, start-told, start-refused, least-told, least-refused, total-told, total-refused}
 use Rattle.ledger.specs.declared.ledger.Ledger.{Ledger}
 use Rattle.ledger.specs.Ledgers.{cellOf, receivedOf, givenOf, accountsOf, Typed}
+use Rattle.format.specs.Bytes.{bit}
 use Rattle.ledger.specs.Maps.{named}
 use Rattle.ledger.specs.Weights.{weightOf, quorumOf}
 use Rattle.ledger.specs.Checks.{aboveFloor}
@@ -71,25 +67,18 @@ above-at c r g i start least v s e =
     above-least c (startOf c i + getD r i 0) (getD g i 0) v
     ∙ ap₂ (λ x y. leb (getD g i 0 + x) (y + getD r i 0)) (sym (least-told c least e .1)) (sym (start-told c i start s .1))
 
--- two small numbers, subtracted as signed ones
-pub gap-is : (a b : ℕ) → a ≤ 68719492720 → b ≤ 68719492720 → toZ w64 a -ℤ toZ w64 b ≡ difference a b
-gap-is a b h k = ap₂ _-ℤ_ (toZ-pos w64 {n = a} (omega arith)) (toZ-pos w64 {n = b} (omega arith)) ∙ pos-less a b
-
-pub gap-fits : (a b : ℕ) → a ≤ 68719492720 → b ≤ 68719492720 → SFits w64 (toZ w64 a -ℤ toZ w64 b)
-gap-fits a b h k = subst (SFits w64) (sym (gap-is a b h k)) (record { sfits = difference-mag a b (2 ^ 63) (omega arith) (omega arith) })
-
 -- the weight of one server
 pub weight-at : (c : Config) (r g : List ℕ) (i start : ℕ) → startAnswer c i ≡ Number.Value start → difference (start + getD r i 0) (getD g i 0) ≡ weight (accountsIn c r g) i
 unfolding weight
 weight-at c r g i start e = ap (λ s. difference (s + getD r i 0) (getD g i 0)) (start-told c i start e .1)
 
 -- a server that a map names counts, and one that it does not name does not
-pub named-counts : (m i x y z : ℕ) → m / 2 ^ i % 2 ≡ 1 → z ≡ x + y → z ≡ x + cond (named m i) y 0
-unfolding named
+pub named-counts : (m i x y z : ℕ) → bit m i ≡ 1 → z ≡ x + y → z ≡ x + cond (named m i) y 0
+unfolding named bit
 named-counts m i x y z t e = rw (eq-eqb (m / 2 ^ i % 2) 1 t) e
 
-pub unnamed-counts : (m i x y z : ℕ) → (m / 2 ^ i % 2 ≡ 1 → ⊥) → z ≡ x → z ≡ x + cond (named m i) y 0
-unfolding named
+pub unnamed-counts : (m i x y z : ℕ) → (bit m i ≡ 1 → ⊥) → z ≡ x → z ≡ x + cond (named m i) y 0
+unfolding named bit
 unnamed-counts m i x y z t e = rw (ne-eqb (m / 2 ^ i % 2) 1 t) (omega arith)
 
 pub counts-most : (b : Bool) (x : ℕ) → cond b x 0 ≤ x
@@ -131,13 +120,13 @@ sums-quorum c l m v =
     at f i k = table-at 16 f i (omega (arith, valid-bounds c v .most))
 
 -- The sums of a ledger that a call can have are small.
-pub sums-small : (f : ℕ → ℕ) → ((i : ℕ) → f i ≤ 68719476720) → Sums (table 16 f)
+pub sums-small : (f : ℕ → ℕ) → ((i : ℕ) → f i ≤ 68719476720) → Sums 68719476720 (table 16 f)
 sums-small f h = record { size = table-length 16 f; small = bounded (table 16 f) 68719476720 (table-length 16 f) (λ k l. subst (λ x. x ≤ 68719476720) (sym (table-at 16 f k l)) (h k)) }
 
-pub received-sums : (l : Ledger) → Typed l → Sums (table 16 (receivedOf l))
+pub received-sums : (l : Ledger) → Typed l → Sums 68719476720 (table 16 (receivedOf l))
 unfolding receivedOf
 received-sums l t = sums-small (receivedOf l) (λ i. sum-most 16 (λ j. cellOf l j i) (λ j. t .cell-fits (j * 16 + i)))
 
-pub given-sums : (l : Ledger) → Typed l → Sums (table 16 (givenOf l))
+pub given-sums : (l : Ledger) → Typed l → Sums 68719476720 (table 16 (givenOf l))
 unfolding givenOf
 given-sums l t = sums-small (givenOf l) (λ i. sum-most 16 (λ j. cellOf l i j) (λ j. t .cell-fits (i * 16 + j)))

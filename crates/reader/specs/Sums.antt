@@ -16,12 +16,7 @@ accountsIn c received given = record { start = startOf c; received = λ i. getD 
 abbrev pub allAbove : Config → List ℕ → List ℕ → Bool
 allAbove c received given = all (c .n) (λ i. aboveOf c (weight (accountsIn c received given) i))
 
--- sums of up to 16 cells
-pub record Sums (l : List ℕ) : Type 0 where
+-- 16 sums, none above a bound: 68,719,476,720 for sums of 16 cells, 18,446,744,069,414,584,320 for sums that have room for one cell more in 64 bits
+pub record Sums (most : ℕ) (l : List ℕ) : Type 0 where
   pub size : length l ≡ 16
-  pub small : (k : ℕ) → getD l k 0 ≤ 68719476720
-
--- 16 sums with room for one cell more each
-pub record Room (l : List ℕ) : Type 0 where
-  pub size : length l ≡ 16
-  pub room : (k : ℕ) → getD l k 0 ≤ 18446744069414584320
+  pub small : (k : ℕ) → getD l k 0 ≤ most

@@ -28,7 +28,7 @@ pub(crate) fn finish(
     given: &[u64],
     note: Cursor,
 ) -> Cursor
-    requires { ⌜ (validOf config ≡ true) × Sums (now received) × Sums (now given) ⌝ }
+    requires { ⌜ (validOf config ≡ true) × Sums 68719476720 (now received) × Sums 68719476720 (now given) ⌝ }
     ensures { λ r. ⌜ r ≡ requireOf (allAbove config (now (received .entry)) (now (given .entry))) 5 (requireOf (eqb (note .at) (length (now (msg .entry)))) 2 note) ⌝ }
 {
     let all = require(note.at == msg.len(), 2, note);

@@ -1,4 +1,5 @@
 // Weights, from what each server received and gave.
+use super::cursor::bit;
 use config::Config;
 use config::Number;
 ghost use mathlib.Core.Path.{_≡_};
@@ -10,7 +11,7 @@ ghost use Rattle.reader.specs.Sums.{accountsIn, allAbove, Sums};
 
 // Whether every weight is above the floor.
 pub(crate) fn above_floor(config: Config, received: &[u64], given: &[u64]) -> bool
-    requires { ⌜ (validOf config ≡ true) × Sums (now received) × Sums (now given) ⌝ }
+    requires { ⌜ (validOf config ≡ true) × Sums 68719476720 (now received) × Sums 68719476720 (now given) ⌝ }
     ensures { λ r. ⌜ r ≡ allAbove config (now (received .entry)) (now (given .entry)) ⌝ }
 {
     let n = config.n as usize;
@@ -32,7 +33,7 @@ pub(crate) fn above_floor(config: Config, received: &[u64], given: &[u64]) -> bo
 
 // The weight of a server.
 pub(crate) fn weight_of(config: Config, received: &[u64], given: &[u64], server: u64) -> i64
-    requires { ⌜ (serverOf config server ≡ true) × Sums (now received) × Sums (now given) ⌝ }
+    requires { ⌜ (serverOf config server ≡ true) × Sums 68719476720 (now received) × Sums 68719476720 (now given) ⌝ }
     ensures { λ r. ⌜ r ≡ weightOf (accountsIn config (now (received .entry)) (now (given .entry))) server ⌝ }
 {
     let i = server as usize;
@@ -45,7 +46,7 @@ pub(crate) fn weight_of(config: Config, received: &[u64], given: &[u64], server:
 
 // Whether the servers that a map names are a quorum: whether twice what they hold is above twice what they gave and W.
 pub(crate) fn is_quorum(config: Config, received: &[u64], given: &[u64], map: u64) -> bool
-    requires { ⌜ (validOf config ≡ true) × Sums (now received) × Sums (now given) ⌝ }
+    requires { ⌜ (validOf config ≡ true) × Sums 68719476720 (now received) × Sums 68719476720 (now given) ⌝ }
     ensures { λ r. ⌜ r ≡ quorumOf (config .n) (accountsIn config (now (received .entry)) (now (given .entry))) (named map) ⌝ }
 {
     let n = config.n as usize;
@@ -59,7 +60,7 @@ pub(crate) fn is_quorum(config: Config, received: &[u64], given: &[u64], map: u6
         let Number::Value(start) = config.start(i as u64) else {
             return false;
         };
-        if (map >> (i as u32)) % 2 == 1 {
+        if bit(map, i) == 1 {
             held = held + start + received[i];
             gave = gave + given[i];
         }

@@ -18,7 +18,7 @@ ghost use Rattle.config.specs.Cluster.{validOf};
 ghost use Rattle.ledger.specs.Ledgers.{receivedOf, givenOf};
 ghost use Rattle.ledger.specs.Tables.{table};
 ghost use Rattle.message.specs.Scans.{cellsAfter, cellRead, cellMapOf, rowCells, rowOf, rowsAfter, ledgerRead, sheetOf};
-ghost use Rattle.reader.specs.Sums.{Room};
+ghost use Rattle.reader.specs.Sums.{Sums};
 
 // What the cells of a row come to, and where they end.
 pub(crate) struct CellsRead {
@@ -37,7 +37,7 @@ pub(crate) fn most_map(config: Config) -> u64
 
 // The cells that a cell map marks, each added to what its taker received, with their total.
 pub(crate) fn weigh_cells(msg: &[u8], map: u64, cursor: Cursor, received: &mut [u64]) -> CellsRead
-    requires { ⌜ (cursor .at ≤ length (now msg)) × (map ≤ 65535) × Room (now received) ⌝ }
+    requires { ⌜ (cursor .at ≤ length (now msg)) × (map ≤ 65535) × Sums 18446744069414584320 (now received) ⌝ }
     ensures { λ r. ⌜ (r .cursor ≡ cellsAfter (now (msg .entry)) map cursor 16) × (r .total ≡ sum 16 (cellRead (now (msg .entry)) map cursor)) × (now (received .exit) ≡ table 16 (λ j. getD (now (received .entry)) j 0 + cellRead (now (msg .entry)) map cursor j)) × (r .cursor .at ≤ length (now (msg .entry))) ⌝ }
 {
     let mut cursor = cursor;
@@ -87,7 +87,7 @@ pub(crate) fn weigh_row(
     cursor: Cursor,
     received: &mut [u64],
 ) -> CellsRead
-    requires { ⌜ (validOf config ≡ true) × (i < 16) × (cursor .at ≤ length (now msg)) × Room (now received) ⌝ }
+    requires { ⌜ (validOf config ≡ true) × (i < 16) × (cursor .at ≤ length (now msg)) × Sums 18446744069414584320 (now received) ⌝ }
     ensures { λ r. ⌜ (r .cursor ≡ rowOf config (now (msg .entry)) i stands cursor .cursor) × (r .total ≡ sum 16 (rowCells config (now (msg .entry)) i stands cursor)) × (now (received .exit) ≡ table 16 (λ j. getD (now (received .entry)) j 0 + rowCells config (now (msg .entry)) i stands cursor j)) × (r .cursor .at ≤ length (now (msg .entry))) ⌝ }
 {
     if stands == 0 {

@@ -1,14 +1,11 @@
 -- `of_refusal` meets its contract: the number is at most 14, so that its signed reading, and the difference, are themselves.
-use Prim.Native.Nat.{_+_, _^_, _≤_}
+use Prim.Native.Nat.{_+_, _≤_}
 use native.Mathlib.Omega.{arith}
-use mathlib.Core.Path.{_≡_, sym, ap, _∙_, subst}
+use mathlib.Core.Path.{sym, ap, _∙_, subst}
 use borrow.Author.Needs.{needs}
-use lib.IntN.{pos, _-ℤ_}
-use mir.Syntax.{w64}
-use mir.Val.{SFits, toZ}
-use mir.Facts.{toZ-pos, toZ-ofZ}
+use mir.Facts.{toZ-ofZ}
 use Rattle.quorums.specs.Difference.{difference}
-use Rattle.quorums.proofs.Differences.{pos-less, difference-mag}
+use Rattle.ledger.proofs.Answers.{gap-is, gap-fits}
 use Rattle.host.specs.Codes.{refusalCode}
 use Rattle.host.proofs.Small.{number-most}
 use Rattle.host.proofs.code.of_refusal.Statement.{statement}
@@ -26,15 +23,15 @@ add-code c = omega (arith, most c)
 cast-result : tie.Need-cast-result
 cast-result c = omega (arith, most c)
 
-is-difference : (c : tie.After-number) → pos 0 -ℤ toZ w64 (1000000 + c .number .result) ≡ difference 0 (1000000 + c .number .result)
-is-difference c = ap (λ z. pos 0 -ℤ z) (toZ-pos w64 {n = 1000000 + c .number .result} (omega (arith, most c))) ∙ pos-less 0 (1000000 + c .number .result)
-
 sub-result : tie.Need-sub-result
-sub-result c = subst (SFits w64) (sym (is-difference c)) (record { sfits = difference-mag 0 (1000000 + c .number .result) (2 ^ 63) (omega arith) (omega (arith, most c)) })
+sub-result c = gap-fits 0 (1000000 + c .number .result) (omega arith) (omega (arith, most c))
 
 returns : tie.Need-returns
 unfolding refusalCode
-returns c = toZ-ofZ (sub-result c) ∙ is-difference c ∙ ap (λ k. difference 0 (1000000 + k)) (c .number .ensures)
+returns c =
+    toZ-ofZ (sub-result c)
+    ∙ gap-is 0 (1000000 + c .number .result) (omega arith) (omega (arith, most c))
+    ∙ ap (λ k. difference 0 (1000000 + k)) (c .number .ensures)
 
 pub of-refusal-spec : {M : Type 1} → statement M
 of-refusal-spec = tie.close (tie.spec number-requires add-code cast-result sub-result returns)

@@ -4,7 +4,8 @@ use borrow.Author.Needs.{needs}
 use Rattle.format.specs.Bytes.{bit}
 use Rattle.message.specs.Cursors.{readNumber}
 use Rattle.message.specs.Scans.{registerOf}
-use Rattle.reader.proofs.Scanned.{received-is, given-is, received-fits, given-fits, number-is}
+use Rattle.reader.proofs.Scanned.{received-is, given-is, number-is}
+use Rattle.reader.proofs.Answered.{received-small, given-small}
 use Rattle.reader.proofs.scan.scan.Statement.{statement}
 use Rattle.reader.proofs.scan.scan.Tie as tie
 
@@ -38,7 +39,7 @@ finish-requires c κs =
     let sheet-stands = c .before .before .before .before .before .before .before .before .before .before .before .bit2 .ensures .0 in
     let sheet = c .before .before .before .before .before .before .before .before .weigh-sheet .ensures in
     let register-is : register .result ≡ registerOf (a .config) (a .msg .now) (bit (head .result .map) 4) (head .result .cursor) = register .ensures .0 ∙ ap (λ s. registerOf (a .config) (a .msg .now) s (head .result .cursor)) stands in
-    (c .before .before .before .before .before .before .before .before .before .before .before .before .before .before .before .before .before .before .before .before .pre .0, received-fits _ _ _ _ _ _ _ (head .ensures .0) register-is sheet-stands (sheet .1) (sheet .2), given-fits _ _ _ _ _ _ _ (head .ensures .0) register-is sheet-stands (sheet .1) (sheet .2))
+    (c .before .before .before .before .before .before .before .before .before .before .before .before .before .before .before .before .before .before .before .before .pre .0, received-small _ _ (received-is _ _ _ _ _ _ _ (head .ensures .0) register-is sheet-stands (sheet .1) (sheet .2)), given-small _ _ (given-is _ _ _ _ _ _ _ (head .ensures .0) register-is sheet-stands (sheet .1) (sheet .2)))
 
 same-length : tie.Need-same-length
 same-length c = search needs

@@ -76,47 +76,41 @@ more-held c =
 more-gave : (c : tie.After-known-told2 Inv-loop μ-loop) → getD (c .before .before .before .before .before .before .before .before .before .before .before .before .args .given .now) (c .before .before .before .before .before .loop .i) 0 ≤ 68719492720
 more-gave c = omega (arith, c .before .before .before .before .before .before .before .before .before .before .before .before .pre .2 .small (c .before .before .before .before .before .loop .i))
 
-cast-if1 : tie.Need-cast-if1 Inv-loop μ-loop
-cast-if1 c = omega (arith, small (c .before .before .before .before))
-
-cast-if1-2 : tie.Need-cast-if1-2 Inv-loop μ-loop
-cast-if1-2 c = omega (arith, small (c .before .before .before .before))
-
-shr-if1 : tie.Need-shr-if1 Inv-loop μ-loop
-shr-if1 c = omega (arith, small (c .before .before .before .before))
+bit-requires : tie.Need-bit-requires Inv-loop μ-loop
+bit-requires c κs = small (c .before .before .before .before)
 
 add-held : tie.Need-add-held Inv-loop μ-loop
-add-held c = omega (arith, c .before .before .before .before .before .before .loop .inv .3, small (c .before .before .before .before .before), more-held (c .before))
+add-held c = omega (arith, c .before .before .before .before .before .before .before .loop .inv .3, small (c .before .before .before .before .before .before), more-held (c .before .before))
 
 mul-held : tie.Need-mul-held Inv-loop μ-loop
-mul-held c = omega (arith, small (c .before .before .before .before .before))
+mul-held c = omega (arith, small (c .before .before .before .before .before .before))
 
 shared-slice-read-held : tie.Need-shared-slice-read-held Inv-loop μ-loop
-shared-slice-read-held c = omega (arith, small (c .before .before .before .before .before .before), c .before .before .before .before .before .before .before .before .before .before .before .before .before .before .pre .1 .size)
+shared-slice-read-held c = omega (arith, small (c .before .before .before .before .before .before .before), c .before .before .before .before .before .before .before .before .before .before .before .before .before .before .before .pre .1 .size)
 
 add-held-2 : tie.Need-add-held-2 Inv-loop μ-loop
-add-held-2 c = omega (arith, c .before .before .before .before .before .before .before .loop .inv .3, small (c .before .before .before .before .before .before), more-held (c .before .before))
+add-held-2 c = omega (arith, c .before .before .before .before .before .before .before .before .loop .inv .3, small (c .before .before .before .before .before .before .before), more-held (c .before .before .before))
 
 mul-gave : tie.Need-mul-gave Inv-loop μ-loop
-mul-gave c = omega (arith, small (c .before .before .before .before .before .before))
+mul-gave c = omega (arith, small (c .before .before .before .before .before .before .before))
 
 shared-slice-read-gave : tie.Need-shared-slice-read-gave Inv-loop μ-loop
-shared-slice-read-gave c = omega (arith, small (c .before .before .before .before .before .before .before), c .before .before .before .before .before .before .before .before .before .before .before .before .before .before .before .pre .2 .size)
+shared-slice-read-gave c = omega (arith, small (c .before .before .before .before .before .before .before .before), c .before .before .before .before .before .before .before .before .before .before .before .before .before .before .before .before .pre .2 .size)
 
 add-gave : tie.Need-add-gave Inv-loop μ-loop
-add-gave c = omega (arith, c .before .before .before .before .before .before .before .before .loop .inv .4, small (c .before .before .before .before .before .before .before), more-gave (c .before .before .before))
+add-gave c = omega (arith, c .before .before .before .before .before .before .before .before .before .loop .inv .4, small (c .before .before .before .before .before .before .before .before), more-gave (c .before .before .before .before))
 
 -- what a turn does add
 added : (c : tie.Joined1 Inv-loop μ-loop) →
-    let a = c .before .before .before .before .before .before .before .before .before .before .before .before .before .args in
-    let l = c .before .before .before .before .before .before .loop in
-    (c .if1 .held ≡ l .held + cond (named (a .map) (l .i)) (c .before .before .start2 .given .0 .0 + getD (a .received .now) (l .i) 0) 0)
+    let a = c .before .before .before .before .before .before .before .before .before .before .before .before .before .before .args in
+    let l = c .before .before .before .before .before .before .before .loop in
+    (c .if1 .held ≡ l .held + cond (named (a .map) (l .i)) (c .before .before .before .start2 .given .0 .0 + getD (a .received .now) (l .i) 0) 0)
     × (c .if1 .gave ≡ l .gave + cond (named (a .map) (l .i)) (getD (a .given .now) (l .i) 0) 0)
 added c =
-    let a = c .before .before .before .before .before .before .before .before .before .before .before .before .before .args in
-    let l = c .before .before .before .before .before .before .loop in
-    ⊎-elim (λ w. (named-counts (a .map) (l .i) _ _ _ (w .0 .taken) (omega (arith, w .3)), named-counts (a .map) (l .i) _ _ _ (w .0 .taken) (w .4)))
-    (λ w. (unnamed-counts (a .map) (l .i) _ _ _ (w .0 .left) (w .1), unnamed-counts (a .map) (l .i) _ _ _ (w .0 .left) (w .2)))
+    let a = c .before .before .before .before .before .before .before .before .before .before .before .before .before .before .args in
+    let l = c .before .before .before .before .before .before .before .loop in
+    ⊎-elim (λ w. (named-counts (a .map) (l .i) _ _ _ (sym (c .before .bit .ensures .0) ∙ w .0 .taken) (omega (arith, w .3)), named-counts (a .map) (l .i) _ _ _ (sym (c .before .bit .ensures .0) ∙ w .0 .taken) (w .4)))
+    (λ w. (unnamed-counts (a .map) (l .i) _ _ _ (λ e. w .0 .left (c .before .bit .ensures .0 ∙ e)) (w .1), unnamed-counts (a .map) (l .i) _ _ _ (λ e. w .0 .left (c .before .bit .ensures .0 ∙ e)) (w .2)))
     (c .if1 .came)
 
 add-i : tie.Need-add-i Inv-loop μ-loop
@@ -127,18 +121,18 @@ loop-less c = search needs
 
 loop-again : tie.Need-loop-again Inv-loop μ-loop
 loop-again c =
-    let a = c .before .before .before .before .before .before .before .before .before .before .before .before .before .args in
-    let l = c .before .before .before .before .before .before .loop in
+    let a = c .before .before .before .before .before .before .before .before .before .before .before .before .before .before .args in
+    let l = c .before .before .before .before .before .before .before .loop in
     let more = added c in
     let named-now = named (a .map) (l .i) in
-    let start = c .before .before .start2 .given .0 .0 in
+    let start = c .before .before .before .start2 .given .0 .0 in
     let received = getD (a .received .now) (l .i) 0 in
     let given = getD (a .given .now) (l .i) 0 in (
-      omega (arith, c .before .before .before .before .before .loop-test .taken),
-      more .0 ∙ ap₂ (λ x s. x + cond named-now (s + received) 0) (l .inv .1) (start-is (c .before)) ∙ sym (sumIn-next _ _ _),
+      omega (arith, c .before .before .before .before .before .before .loop-test .taken),
+      more .0 ∙ ap₂ (λ x s. x + cond named-now (s + received) 0) (l .inv .1) (start-is (c .before .before)) ∙ sym (sumIn-next _ _ _),
       more .1 ∙ ap (λ x. x + cond named-now given 0) (l .inv .2) ∙ sym (sumIn-next _ _ _),
-      omega (arith, more .0, counts-most named-now (start + received), more-held (c .before), l .inv .3),
-      omega (arith, more .1, counts-most named-now given, more-gave (c .before), l .inv .4),
+      omega (arith, more .0, counts-most named-now (start + received), more-held (c .before .before), l .inv .3),
+      omega (arith, more .1, counts-most named-now given, more-gave (c .before .before), l .inv .4),
     )
 
 -- the sums are small
@@ -183,9 +177,7 @@ is-quorum-spec =
     enum-known-start
     enum-told-2
     returns-2
-    cast-if1
-    cast-if1-2
-    shr-if1
+    bit-requires
     add-held
     mul-held
     shared-slice-read-held

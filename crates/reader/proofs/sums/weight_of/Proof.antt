@@ -1,5 +1,5 @@
 -- `weight_of` meets its contract: both sides are small enough that their signed readings, and the difference, are themselves.
-use Prim.Native.Nat.{_+_, _≤_}
+use Prim.Native.Nat.{_+_, _^_, _<_}
 use native.Mathlib.Omega.{arith}
 use mathlib.Core.Path.{_≡_, sym, _∙_}
 use borrow.Author.Needs.{needs}
@@ -8,7 +8,8 @@ use mir.Facts.{toZ-ofZ}
 use Rattle.config.specs.Cluster.{startAnswer}
 use Rattle.config.specs.declared.answer.Number.{Number}
 use Rattle.config.proofs.Clusters.{server-small}
-use Rattle.reader.proofs.Weights.{start-stands, start-bound, gap-is, gap-fits, weight-at}
+use Rattle.ledger.proofs.Answers.{gap-is, gap-fits}
+use Rattle.reader.proofs.Weights.{start-stands, start-bound, weight-at}
 use Rattle.reader.proofs.sums.weight_of.Statement.{statement}
 use Rattle.reader.proofs.sums.weight_of.Tie as tie
 
@@ -36,12 +37,12 @@ start-is : (c : tie.After-known-told) → startAnswer (c .before .before .before
 start-is c = sym (c .before .before .before .start .ensures) ∙ c .before .start2 .given .1
 
 -- both sides are small
-held-small : (c : tie.After-known-told) → c .before .start2 .given .0 .0 + getD (c .before .before .before .before .before .before .args .received .now) (c .before .before .before .before .before .before .args .server) 0 ≤ 68719492720
+held-small : (c : tie.After-known-told) → c .before .start2 .given .0 .0 + getD (c .before .before .before .before .before .before .args .received .now) (c .before .before .before .before .before .before .args .server) 0 < 2 ^ 62
 held-small c =
     let start = c .before .before .before .before .before .before in
     omega (arith, start-bound _ _ _ (start-is c), start .pre .1 .small (start .args .server))
 
-given-small : (c : tie.After-known-told) → getD (c .before .before .before .before .before .before .args .given .now) (c .before .before .before .before .before .before .args .server) 0 ≤ 68719492720
+given-small : (c : tie.After-known-told) → getD (c .before .before .before .before .before .before .args .given .now) (c .before .before .before .before .before .before .args .server) 0 < 2 ^ 62
 given-small c =
     let start = c .before .before .before .before .before .before in
     omega (arith, start .pre .2 .small (start .args .server))

@@ -73,7 +73,7 @@ slice-read-received c =
 add-received : tie.Need-add-received Inv-loop μ-loop
 add-received c =
     let l = c .before .before .before .before .before .before .loop in
-    let room = c .before .before .before .before .before .before .before .before .before .pre .2 .room (l .j) in
+    let room = c .before .before .before .before .before .before .before .before .before .pre .2 .small (l .j) in
     omega (arith, l .inv .6 .left (l .j) (omega arith), room, c .before .before .before .before .read-number .ensures .2)
 
 mul-received-2 : tie.Need-mul-received-2 Inv-loop μ-loop

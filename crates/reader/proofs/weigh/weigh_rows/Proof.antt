@@ -43,7 +43,7 @@ weigh-row-requires c κs =
     let a = c .before .before .before .before .before .before .args in
     let small : (k : ℕ) → k < 16 → getD (l .received) k 0 ≤ 18446744069414584320 =
     λ k g. omega (arith, l .inv .5 k g, sum-most (l .i) (λ r. cellOfRow (a .config) (a .msg .now) (a .map .x) (a .map) r k) (λ r. cell-most _ _ _ _ r k), l .inv .0) in
-    (c .before .before .before .before .before .before .pre .0, inside, l .inv .3, record { size = l .inv .4; room = bounded (l .received) 18446744069414584320 (l .inv .4) small })
+    (c .before .before .before .before .before .before .pre .0, inside, l .inv .3, record { size = l .inv .4; small = bounded (l .received) 18446744069414584320 (l .inv .4) small })
 
 mul-given : tie.Need-mul-given Inv-loop μ-loop
 mul-given c = search needs
