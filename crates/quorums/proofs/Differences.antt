@@ -6,9 +6,9 @@ use native.Mathlib.Omega.{arith}
 use mathlib.Core.Path.{_≡_, refl, sym, ap, _∙_}
 use mathlib.Core.Logic.{⊎-elim}
 use borrow.Author.Tests.{lt-ltb, le-ltb}
-use lib.Dec.{ltb}
+use lib.Dec.{ltb, le→leb}
 use lib.IntN.{pos, negsuc, negℤ, subℕ, _+ℤ_, _-ℤ_, _*ℤ_}
-use lib.Signed.{ltZ, mag}
+use lib.Signed.{ltZ, mag, _≤ℤ_, leZ-yes}
 use Rattle.quorums.specs.Difference.{difference}
 use Rattle.quorums.proofs.Tests.{le-or-lt, ltb-same}
 
@@ -66,6 +66,9 @@ difference-add a b c d =
 pub difference-less : (a b w : ℕ) → difference a b -ℤ pos w ≡ difference a (b + w)
 difference-less a b w = rw (neg-difference w, difference-add a b 0 w) (difference-same (a + 0) (b + w) a (b + w) (omega arith))
 
+pub difference-more : (a b w : ℕ) → difference a b +ℤ pos w ≡ difference (a + w) b
+difference-more a b w = rw (pos-difference w, difference-add a b w 0) (difference-same (a + w) (b + 0) (a + w) b (omega arith))
+
 pub difference-times : (a b k : ℕ) → difference a b *ℤ pos k ≡ difference (a * k) (b * k)
 difference-times a b k =
     ⊎-elim
@@ -90,6 +93,17 @@ lt-difference w a b =
     ⊎-elim
     (λ (h : b ≤ a). rw (difference-up a b h) (ltb-same w (a - b) (b + w) a (λ (k : w < a - b). omega arith) (λ (k : b + w < a). omega arith)))
     (λ (h : a < b). rw (difference-down a b h) (sym (le-ltb (b + w) a (omega arith))))
+    (le-or-lt b a)
+
+-- and so is one of two differences
+pub difference-le : (a b c d : ℕ) → a + d ≤ c + b → difference a b ≤ℤ difference c d
+difference-le a b c d l =
+    ⊎-elim
+    (λ (h : b ≤ a). rw (difference-up a b h, difference-up c d (omega arith)) (leZ-yes (le→leb (a - b) (c - d) (omega arith))))
+    (λ (h : a < b).
+    ⊎-elim (λ (k : d ≤ c). rw (difference-down a b h, difference-up c d k) (leZ-yes tt))
+    (λ (k : c < d). rw (difference-down a b h, difference-down c d k) (leZ-yes (le→leb (d - suc c) (b - suc a) (omega arith))))
+    (le-or-lt d c))
     (le-or-lt b a)
 
 -- as a program computes it, and its size

@@ -6,6 +6,8 @@ use native.Mathlib.Omega.{arith}
 use mathlib.Core.Path.{_≡_, refl, sym, ap, _∙_}
 use mathlib.Core.Logic.{_⊎_, ⊎-elim}
 use mathlib.Core.Bool.{Bool, true, false, cond}
+use borrow.Author.Tests.{eq-eqb, ne-eqb}
+use lib.Dec.{eqb}
 use Rattle.quorums.specs.Sum.{sum, sumIn, size, all}
 
 -- a number below n + 1 is n, or is below n
@@ -54,6 +56,24 @@ sum-more (suc n) f g j d l e same =
     ⊎-elim
     (λ (h : j ≡ n). omega (arith, sum-same n g f (λ i k. same i (omega arith) (λ c. omega arith)), (rw h at e)))
     (λ (h : j < n). omega (arith, sum-more n f g j d h e (λ i k ne. same i (omega arith) ne), same n (omega arith) (λ c. omega arith)))
+    (below-suc l)
+
+-- only one term counts
+pub sum-one : (n k x : ℕ) → k < n → sum n (λ i. cond (eqb k i) x 0) ≡ x
+sum-one n k x l =
+    omega (
+      arith,
+      sum-more n (λ i. 0) (λ i. cond (eqb k i) x 0) k x l (rw (eq-eqb k k refl) (omega arith)) (λ i m ne. rw (ne-eqb k i (λ e. ne (sym e)))),
+      sum-zero n (λ i. 0) (λ i m. refl),
+    )
+
+-- one difference is at most the sum of all, where none is negative
+pub sum-rest : (n : ℕ) (f g : ℕ → ℕ) → ((i : ℕ) → i < n → f i ≤ g i) → (i : ℕ) → i < n → g i + sum n f ≤ f i + sum n g
+unfolding sum
+sum-rest zero f g h i l = absurd (omega arith)
+sum-rest (suc n) f g h i l =
+    ⊎-elim (λ (e : i ≡ n). rw e (omega (arith, sum-le n f g (λ j k. h j (omega arith)))))
+    (λ (k : i < n). omega (arith, sum-rest n f g (λ j m. h j (omega arith)) i k, h n (le-refl (suc n))))
     (below-suc l)
 
 -- the first term apart

@@ -88,6 +88,14 @@ left-quorum n f a q l h s =
 
 -- ---- growth
 
+-- A weight stays above the floor while more is received and no more is given.
+pub above-grows : (n f W x y u v : ℕ) → x ≤ u → v ≤ y → above n f W (difference x y) ≡ true → above n f W (difference u v) ≡ true
+above-grows n f W x y u v l m e =
+    let k = 2 * (n - f) in
+    let before : y * k + W < x * k = ltb-true _ _ (sym (above-is n f W x y) ∙ e) in
+    let after : v * k + W < u * k = omega (arith, mul-le-mul-right k l, mul-le-mul-right k m) in
+    above-is n f W u v ∙ lt-ltb _ _ after
+
 -- A quorum stays one while its servers give nothing more, whatever any server receives.
 pub quorum-grows : (n : ℕ) (a u : Accounts) (q : ℕ → Bool) → ((i : ℕ) → i < n → a .start i ≡ u .start i)
     → ((i : ℕ) → i < n → q i ≡ true → u .given i ≤ a .given i)
