@@ -1,0 +1,69 @@
+-- The invariant holds after every step of every run of the machine.
+use Prim.Native.Nat.{ℕ, zero, suc}
+use mathlib.Core.Path.{_≡_}
+use mathlib.Core.Bool.{true}
+use mathlib.Core.List.{List, [], _++_}
+use mathlib.Core.Option.{Option, none, some}
+use Rattle.config.specs.Cluster.{validOf}
+use Rattle.config.specs.declared.cluster.Config.{Config}
+use Rattle.machine.specs.Calls.{wrote}
+use Rattle.machine.specs.Runs.{machine, Step, opened, State, nth, when, nothing, take, at}
+use Rattle.machine.proofs.Lists.{nth-in}
+use Rattle.machine.proofs.Histories.{History}
+use Rattle.machine.proofs.Replicas.{good-fresh}
+use Rattle.machine.proofs.Moves.{giftOf, moved}
+use Rattle.machine.proofs.Desks.{runOf}
+use Rattle.machine.proofs.Invariant.{Invariant}
+use Rattle.machine.proofs.DesksKept.{begins-kept, drops-kept, asks-kept, restarts-kept, chooses-kept, ends-kept, marks-kept}
+use Rattle.machine.proofs.ServersKept.{crashes-kept, shares-kept, takes-kept, replies-kept}
+use Rattle.machine.proofs.GiftsKept.{gives-kept}
+
+-- the transfers made by the first k steps, latest first
+unfoldable pub historyAt : Config → List Step → ℕ → History
+historyAt c steps zero = []
+historyAt c steps (suc k) = when (nth steps k) [] (giftOf c (at (runOf c steps) k)) ++ historyAt c steps k
+
+pub fresh-invariant : (c : Config) → Invariant c [] opened
+fresh-invariant c =
+    record {
+      lawful = record { each = λ g m. absurd m; ordered = tt };
+      own = λ g m. absurd m;
+      servers = λ i. good-fresh [];
+      desks = λ d. good-fresh [];
+      messages = λ m i. absurd i;
+      since = λ m i. absurd i;
+      rounds = λ m i. absurd i;
+      spreading = λ d. tt;
+    }
+
+pub step-keeps : (c : Config) → validOf c ≡ true → (h : History) (s : State) → Invariant c h s → (st : Step)
+    → Invariant c (giftOf c s st ++ h) (take machine c s st .state)
+step-keeps c valid h s inv st =
+    moved c s (λ g z. Invariant c (g ++ h) (z .state)) st
+    (record {
+      still = λ a e. inv;
+      tells = λ d y e at f. inv;
+      crashes = λ i e l. crashes-kept inv i;
+      gives = λ i j e q up g. gives-kept c valid inv i j e (up .below) g;
+      shares = λ i place size a e up. shares-kept inv i (wrote a);
+      takes = λ i k place size m a e up f g. takes-kept inv i m (nth-in (s .sent) k m f) (wrote a);
+      replies = λ i k place size m a e up f g z. replies-kept inv i m (nth-in (s .sent) k m f) (wrote a) g;
+      begins = λ d t note e at l rests room. begins-kept inv d t note;
+      asks = λ d i place size o a e at f l. asks-kept inv d (wrote a) o i;
+      drops = λ d o e at f. drops-kept inv d;
+      restarts = λ d k m o x i room. restarts-kept inv d o m (nth-in (s .sent) k m (x .sent)) (x .hearing);
+      marks = λ d k m o x i. marks-kept inv d o m (nth-in (s .sent) k m (x .sent)) (x .hearing);
+      chooses = λ d k m o x i q f room w. chooses-kept inv d o m (nth-in (s .sent) k m (x .sent)) (x .hearing);
+      ends = λ d k m o g x i q f. ends-kept inv d o m (nth-in (s .sent) k m (x .sent)) (x .hearing) g;
+    })
+
+place-keeps : (c : Config) → validOf c ≡ true → (h : History) (s : State) → Invariant c h s → (o : Option Step)
+    → Invariant c (when o [] (giftOf c s) ++ h) (when o (nothing s) (take machine c s) .state)
+place-keeps c valid h s inv none = inv
+place-keeps c valid h s inv (some st) = step-keeps c valid h s inv st
+
+pub invariant : (c : Config) → validOf c ≡ true → (steps : List Step) (k : ℕ) → Invariant c (historyAt c steps k) (at (runOf c steps) k)
+unfolding historyAt at
+invariant c valid steps zero = fresh-invariant c
+invariant c valid steps (suc k) =
+    place-keeps c valid (historyAt c steps k) (at (runOf c steps) k) (invariant c valid steps k) (nth steps k)

@@ -1,0 +1,46 @@
+-- Laws, in reading order.
+
+-- Lists, places of a run, and what comes out of a choice.
+pub mod Lists
+pub mod Places
+pub mod Branches
+-- What each call, each step, and each step for one desk can come to.
+pub mod Outcomes
+pub mod Histories
+pub mod Moves
+pub mod Desks
+-- Tags and sets; weights on closed sets; question four.
+pub mod Tags
+pub mod Sets
+pub mod Joins
+pub mod Closed
+pub mod QuestionFour
+-- Operations: where they begin and end, their phases, results and restarts; where each register comes from, and values.
+pub mod Performed
+pub mod Phases
+pub mod Results
+pub mod Restarts
+pub mod Registers
+pub mod Traces
+pub mod Values
+-- The invariant, and that every step keeps it.
+pub mod Replicas
+pub mod Invariant
+pub mod DesksKept
+pub mod ServersKept
+pub mod GiftsKept
+pub mod Always
+-- What follows for every set held or sent, and why the numbers 2 to 6 do not occur.
+pub mod Sheets
+pub mod Rows
+pub mod Replies
+pub mod Clashes
+pub mod SetRanges
+pub mod WorkRanges
+pub mod Ranges
+-- The published rule, the order of tags, and all clauses together.
+pub mod Rule
+pub mod Following
+pub mod Later
+pub mod Order
+pub mod Whole

@@ -1,0 +1,235 @@
+-- Operations in a run of the machine. What a desk does at a place comes from its last begin before it: by induction over places, each step by what it
+-- can do to the desk. A begin is accepted only by a desk that rests, so none is accepted where an operation goes on.
+use Prim.Native.Nat.{ℕ, zero, suc, _≤_, _<_}
+use native.Mathlib.Omega.{arith}
+use mathlib.Core.Path.{_≡_, refl, sym, ap, _∙_, subst}
+use mathlib.Core.Logic.{_⊎_, inl, inr, ⊎-elim}
+use mathlib.Core.Bool.{true, false, false≢true}
+use mathlib.Core.List.{List}
+use mathlib.Core.Option.{none, some}
+use lib.ListN.{length}
+use Rattle.quorums.proofs.Tests.{le-or-lt}
+use Rattle.quorums.proofs.Sums.{below-suc}
+use Rattle.config.specs.declared.cluster.Config.{Config}
+use Rattle.config.specs.declared.answer.Refusal.{Refusal}
+use Rattle.machine.specs.Parties.{Task, valueOf, Operation, Result, Activity, idle, running, ended, if-ended, Desk}
+use Rattle.machine.specs.Calls.{mostRound, mostValue, Answer, unmade, refused, done, told, accept, refuse, begun, beginBy, resultBy}
+use Rattle.machine.specs.Runs.{machine, Step, begin, hear, put, nth, when, nothing, take, Run, State, at, answerAt}
+use Rattle.machine.specs.Operations.{deskAt, Begins, Current, Gives, Ends, accepted}
+use Rattle.machine.proofs.Places.{from-on}
+use Rattle.machine.proofs.Branches.{Resting}
+use Rattle.machine.proofs.Outcomes.{begin-cases}
+use Rattle.machine.proofs.Moves.{on-desk}
+use Rattle.machine.proofs.Desks.{runOf, put-cases, desk-moved}
+
+-- ---- the last begin before a place, in any run
+
+-- desk d begins no operation at place k
+abbrev pub NoBegin : Run → ℕ → ℕ → Type 0
+NoBegin r d k = (u : Task) → Begins r d k u → ⊥
+
+pub current-new : {r : Run} {d k : ℕ} {t : Task} → Begins r d k t → Current r d k t (suc k)
+current-new b = record { begun = b; earlier = omega arith; last = λ p u l m. absurd (omega arith) }
+
+pub current-next : {r : Run} {d i k : ℕ} {t : Task} → Current r d i t k → NoBegin r d k → Current r d i t (suc k)
+current-next {r} {d} {i} {k} {t} h none-here =
+    record {
+      begun = h .begun;
+      earlier = omega arith;
+      last =
+          λ p u l m b.
+          ⊎-elim (λ (e : p ≡ k). none-here u (subst (λ q. Begins r d q u) e b)) (λ (e : p < k). h .last p u l e b) (below-suc m);
+    }
+
+pub current-earlier : {r : Run} {d i k : ℕ} {t : Task} → Current r d i t k → (p : ℕ) → i < p → p ≤ k → Current r d i t p
+current-earlier h p l m = record { begun = h .begun; earlier = l; last = λ q u a b. h .last q u a (omega arith) }
+
+-- a place has one operation
+pub current-unique : {r : Run} {d i j k : ℕ} {t u : Task} → Current r d i t k → Current r d j u k → (i ≡ j) × (t ≡ u)
+current-unique {r} {d} {i} {j} {k} {t} {u} h e =
+    let same : i ≡ j = order (le-or-lt i j) (le-or-lt j i) in
+    (same, task (subst (λ p. Begins r d p t) same (h .begun)) (e .begun))
+  where
+    order : (i ≤ j) ⊎ (j < i) → (j ≤ i) ⊎ (i < j) → i ≡ j
+    order (inl a) (inl b) = omega arith
+    order (inl a) (inr b) = absurd (h .last j u b (e .earlier) (e .begun))
+    order (inr a) y = absurd (e .last i t a (h .earlier) (h .begun))
+
+    task : Begins r d j t → Begins r d j u → t ≡ u
+    task a b = cc
+
+-- an operation that ends stays the last one: its end is a hear
+pub current-ended : {r : Run} {d i k : ℕ} {t : Task} {x : Result} → Ends r d i t k x → Current r d i t (suc k)
+current-ended {r} {d} {i} {k} {t} {x} h = current-next (h .current) (λ u b. apart u (b .step) (h .step))
+  where
+    apart : (u : Task) {note m : ℕ} → nth (r .steps) k ≡ some (begin d u note) → nth (r .steps) k ≡ some (hear d m) → ⊥
+    apart u a b = let z : _≡_ {A = ℕ} 0 1 = cc in omega arith
+
+-- What holds at a place p of an operation holds at a later one k, if each step between them, which is no begin of the desk, keeps it.
+pub during : {r : Run} {d i : ℕ} {t : Task} (P : ℕ → Type 0) (p k : ℕ) → i < p → p ≤ k → Current r d i t k
+    → ((q : ℕ) → p ≤ q → Current r d i t q → NoBegin r d q → P q → P (suc q))
+    → P p
+    → P k
+during {r} {d} {i} {t} P p k l m h step start =
+    from-on (λ q. Current r d i t q → P q) p (λ e. start)
+    (λ q n before e.
+    let now : Current r d i t q = current-earlier e q (omega arith) (omega arith) in
+    step q n now (λ u. e .last q u (omega arith) (omega arith)) (before now))
+    k
+    m
+    h
+
+-- ---- a begin of the machine
+
+-- the desk x accepts a begin with the task t, and is y then
+pub record Begun (x : Desk) (t : Task) (y : Desk) : Type 0 where
+  pub note : ℕ
+  pub short : length (valueOf t) ≤ mostValue
+  pub rests : Resting (x .activity)
+  pub room : x .round < mostRound
+  pub after : y ≡ begun x t note
+
+begin-taken : (c : Config) (s : State) (d : ℕ) (t : Task) (note : ℕ) → take machine c s (begin d t note) .answer ≡ done
+    → Begun (s .desks d) t (take machine c s (begin d t note) .state .desks d)
+unfolding take
+begin-taken c s d t note =
+    on-desk c s (λ z. z .answer ≡ done → Begun (s .desks d) t (z .state .desks d)) d (λ x. beginBy c x t note) (apart unmade refl)
+    (λ at.
+    begin-cases (λ o. o .answer ≡ done → Begun (s .desks d) t (put (s .desks) d (o .party) d)) c (s .desks d) t note (λ k. apart (refused k) refl)
+    (λ l rests room e.
+    record {
+      note = note;
+      short = l;
+      rests = rests;
+      room = room;
+      after = put-cases (λ y. y ≡ begun (s .desks d) t note) (s .desks) d _ d (λ f. refl) (λ f. absurd (f refl));
+    }))
+  where
+    -- an answer that is none of an accepted call is not done
+    apart : {A : Type 0} (a : Answer) → accepted a ≡ false → a ≡ done → A
+    apart a e f = absurd (false≢true (sym e ∙ ap accepted f))
+
+-- ---- where what a desk does comes from
+
+-- the begin of an operation with the task t that runs at place k
+pub record RunningFrom (r : Run) (d k : ℕ) (t : Task) : Type 0 where
+  pub begun : ℕ
+  pub current : Current r d begun t k
+
+-- the begin and the end of the operation whose result x is there at place k
+pub record EndedFrom (r : Run) (d k : ℕ) (x : Result) : Type 0 where
+  pub begun : ℕ
+  pub task : Task
+  pub end : ℕ
+  pub current : Current r d begun task k
+  pub ends : Ends r d begun task end x
+  pub earlier : end < k
+
+-- no operation both runs and has ended
+pub running-ended : {a : Activity} {o : Operation} {x : Result} → a ≡ running o → a ≡ ended x → ⊥
+running-ended e f = let z : _≡_ {A = ℕ} 0 1 = cc in omega arith
+
+abbrev Origin : Run → ℕ → ℕ → Activity → Type 0
+Origin r d k idle = Unit
+Origin r d k (running o) = RunningFrom r d k (o .task)
+Origin r d k (ended x) = EndedFrom r d k x
+
+module _ (c : Config) (steps : List Step) where
+  abbrev r : Run
+  r = runOf c steps
+
+  pub begins-is : (d k : ℕ) (t : Task) → Begins r d k t → Begun (deskAt r d k) t (deskAt r d (suc k))
+  unfolding at answerAt
+  begins-is d k t b =
+      subst (λ z. z .answer ≡ done → Begun (deskAt r d k) t (z .state .desks d))
+      (ap (λ o. when o (nothing (at r k)) (take machine c (at r k))) (sym (b .step)))
+      (begin-taken c (at r k) d t (b .note))
+      (b .taken)
+
+  -- no begin is accepted where an operation runs, nor where the desk stays as it is
+  pub busy : (d k : ℕ) (o : Operation) → deskAt r d k .activity ≡ running o → NoBegin r d k
+  busy d k o e u b = subst Resting e (begins-is d k u b .rests)
+
+  pub unmoved : (d k : ℕ) → deskAt r d k ≡ deskAt r d (suc k) → NoBegin r d k
+  unmoved d k e u b = let f = begins-is d k u b in subst Resting (ap (λ y. y .activity) (e ∙ f .after)) (f .rests)
+
+  -- what a result call tells is the result of an operation that has ended
+  pub gives-ended : (d k : ℕ) (x : Result) → Gives r d k x → deskAt r d k .activity ≡ ended x
+  unfolding resultBy
+  gives-ended d k x = by-activity (deskAt r d k .activity)
+    where
+      by-activity : (a : Activity) → if-ended a (λ y. accept (told y) (deskAt r d k)) (refuse Refusal.Idle (deskAt r d k)) .answer ≡ told x
+          → a ≡ ended x
+      by-activity idle e = absurd (false≢true (ap accepted e))
+      by-activity (running o) e = absurd (false≢true (ap accepted e))
+      by-activity (ended y) e = cc
+
+  pub ended-gives : (d k : ℕ) (x : Result) → deskAt r d k .activity ≡ ended x → Gives r d k x
+  unfolding resultBy
+  ended-gives d k x e = rw e
+
+  module _ (d k : ℕ) where
+    origin-next : (a : Activity) → NoBegin r d k → Origin r d k a → Origin r d (suc k) a
+    origin-next idle n h = tt
+    origin-next (running o) n h = record { begun = h .begun; current = current-next (h .current) n }
+    origin-next (ended x) n h =
+        record {
+          begun = h .begun;
+          task = h .task;
+          end = h .end;
+          current = current-next (h .current) n;
+          ends = h .ends;
+          earlier = omega (arith, h .earlier);
+        }
+
+    -- what runs goes on
+    goes-on : (o : Operation) → deskAt r d k .activity ≡ running o → Origin r d k (deskAt r d k .activity) → RunningFrom r d (suc k) (o .task)
+    goes-on o e h = origin-next (running o) (busy d k o e) (subst (Origin r d k) e h)
+
+    -- what runs comes to its end
+    comes-to-end : (p : ℕ) (o : Operation) (x : Result) → nth steps k ≡ some (hear d p) → deskAt r d k .activity ≡ running o
+        → deskAt r d (suc k) .activity ≡ ended x
+        → Origin r d k (deskAt r d k .activity)
+        → EndedFrom r d (suc k) x
+    comes-to-end p o x s e f h =
+        let from : RunningFrom r d k (o .task) = subst (Origin r d k) e h in
+        record {
+          begun = from .begun;
+          task = o .task;
+          end = k;
+          current = current-next (from .current) (busy d k o e);
+          ends =
+              record {
+                current = from .current;
+                message = p;
+                step = s;
+                before = λ y g. running-ended e (gives-ended d k y g);
+                after = ended-gives d (suc k) x f;
+              };
+          earlier = omega arith;
+        }
+
+    origin-step : Origin r d k (deskAt r d k .activity) → Origin r d (suc k) (deskAt r d (suc k) .activity)
+    origin-step h =
+        desk-moved c steps d k (λ a y. y ≡ deskAt r d (suc k) → Origin r d (suc k) (y .activity))
+        (record {
+          still = λ e. origin-next (deskAt r d k .activity) (unmoved d k e) h;
+          begins = λ t note b l rests room e. record { begun = k; current = current-new b };
+          drops = λ o f e. tt;
+          restarts = λ p m o f i room e. goes-on o (f .hearing .runs) h;
+          marks = λ p m o f i e. goes-on o (f .hearing .runs) h;
+          chooses = λ p m o f i q g room w e. goes-on o (f .hearing .runs) h;
+          ends = λ p m o g s f i q z e. comes-to-end p o _ s (f .hearing .runs) (ap (λ y. y .activity) (sym e)) h;
+        })
+        refl
+
+  origin : (d k : ℕ) → Origin r d k (deskAt r d k .activity)
+  unfolding at
+  origin d zero = tt
+  origin d (suc k) = origin-step d k (origin d k)
+
+  pub running-origin : (d k : ℕ) (o : Operation) → deskAt r d k .activity ≡ running o → RunningFrom r d k (o .task)
+  running-origin d k o e = subst (Origin r d k) e (origin d k)
+
+  pub ended-origin : (d k : ℕ) (x : Result) → deskAt r d k .activity ≡ ended x → EndedFrom r d k x
+  ended-origin d k x e = subst (Origin r d k) e (origin d k)

@@ -1,0 +1,25 @@
+-- What an operation that ended tells: its kind and its own tag. Where it ends it is in phase 2 with the register of its result, and an operation
+-- chooses once.
+use Prim.Native.Nat.{ℕ}
+use mathlib.Core.List.{List}
+use Rattle.config.specs.declared.cluster.Config.{Config}
+use Rattle.machine.specs.Parties.{Task, Result}
+use Rattle.machine.specs.Runs.{Step}
+use Rattle.machine.specs.Operations.{Ends, Chose}
+use Rattle.machine.specs.Clauses.{Results}
+use Rattle.machine.proofs.Desks.{runOf}
+use Rattle.machine.proofs.Phases.{chose-unique, ends-finish}
+
+module _ (c : Config) (steps : List Step) where
+  pub ends-chose : {d i k : ℕ} {t : Task} {x : Result} → Ends (runOf c steps) d i t k x → Chose (runOf c steps) d i t (x .register)
+  ends-chose {k = k} h =
+      let f = ends-finish c steps h in
+      record { place = k; current = h .current; operation = f .operation; runs = f .hearing .runs; phase-two = f .phase-two }
+
+  pub results : Results (runOf c steps)
+  results =
+      record {
+        kind = λ d i k t x h. ends-finish c steps h .kind;
+        chose = λ d i k t x h. ends-chose h;
+        tag = λ d i k t x g h a. chose-unique c steps a (ends-chose h);
+      }

@@ -1,0 +1,81 @@
+-- Values in every run of the machine: what a read returns is the empty start or the bytes of the one write with its tag. Each register comes from the
+-- start or from a write, and no two writes have one tag; so registers with one tag are one.
+use Prim.Native.Nat.{ℕ, suc, _≤_}
+use native.Mathlib.Omega.{arith}
+use mathlib.Core.Path.{_≡_, refl, sym, ap, _∙_, subst}
+use mathlib.Core.Logic.{inl, inr}
+use mathlib.Core.List.{List}
+use Rattle.config.specs.declared.cluster.Config.{Config}
+use Rattle.machine.specs.Parties.{Register, start, write}
+use Rattle.machine.specs.Runs.{Step, Run}
+use Rattle.machine.specs.Operations.{Begins, Chose}
+use Rattle.machine.specs.Clauses.{SameTag, Source, Values}
+use Rattle.machine.proofs.Desks.{runOf}
+use Rattle.machine.proofs.Performed.{gives-ended}
+use Rattle.machine.proofs.Registers.{write-own, write-once}
+use Rattle.machine.proofs.Traces.{Written, Traced, Carries, by-operation, by-result, traced}
+
+-- a begin is given one list of bytes
+same-bytes : {r : Run} {d e i j : ℕ} {v w : List ℕ} → Begins r d i (write v) → Begins r e j (write w) → i ≡ j → v ≡ w
+same-bytes a b same = cc
+
+-- tag and value are all of a register
+same-register : (g h : Register) → SameTag g h → g .value ≡ h .value → g ≡ h
+same-register g h s v = λ i. record { stamp = s .0 i; desk = s .1 i; value = v i }
+
+module _ (c : Config) (steps : List Step) where
+  abbrev r : Run
+  r = runOf c steps
+
+  -- the value of a register that a write chose are the bytes given to its begin
+  written-value : (g : Register) (w : Written r g) → g .value ≡ w .bytes
+  written-value g w = write-own c steps (w .desk) (w .begun) (w .bytes) g (w .chose) .1
+
+  -- ---- one tag, one register
+
+  write-above-start : (g h : Register) → g ≡ start → Written r h → SameTag g h → ⊥
+  write-above-start g h e w s =
+      let positive : 1 ≤ h .stamp = write-own c steps (w .desk) (w .begun) (w .bytes) h (w .chose) .2 in
+      let z : g .stamp ≡ 0 = ap (λ y. y .stamp) e in
+      omega (arith, s .0)
+
+  written-same : (g h : Register) → Written r g → Written r h → SameTag g h → g ≡ h
+  written-same g h a b s =
+      let one = write-once c steps (a .desk) (a .begun) (b .desk) (b .begun) (a .bytes) (b .bytes) g h (a .chose) (b .chose) s in
+      let bytes : a .bytes ≡ b .bytes = same-bytes (a .chose .current .begun) (b .chose .current .begun) (one .1) in
+      same-register g h s (written-value g a ∙ bytes ∙ sym (written-value h b))
+
+  traced-same : (g h : Register) → Traced r g → Traced r h → SameTag g h → g ≡ h
+  traced-same g h (inl a) (inl b) s = a ∙ sym b
+  traced-same g h (inl a) (inr b) s = absurd (write-above-start g h a b s)
+  traced-same g h (inr a) (inl b) s = absurd (write-above-start h g b a (sym (s .0), sym (s .1)))
+  traced-same g h (inr a) (inr b) s = written-same g h a b s
+
+  -- of the registers held, chosen, told or sent at whatever places of a run, those with one tag are one
+  pub same-tag-same-register : (k l : ℕ) (a b : Register) → Carries r k a → Carries r l b → SameTag a b → a ≡ b
+  same-tag-same-register k l a b p q s = traced-same a b (traced c steps k a p) (traced c steps l b q) s
+
+  -- ---- what a read returns
+
+  source : (g : Register) → Traced r g → Source r g (g .value)
+  source g (inl e) = inl (ap (λ y. y .stamp) e, ap (λ y. y .desk) e, ap (λ y. y .value) e)
+  source g (inr w) =
+      inr
+      (record {
+        desk = w .desk;
+        begun = w .begun;
+        register = g;
+        chose = subst (λ v. Chose r (w .desk) (w .begun) (write v) g) (sym (written-value g w)) (w .chose);
+        tag = (refl, refl);
+        only = λ e j v h p s. write-once c steps e j (w .desk) (w .begun) v (w .bytes) h g p (w .chose) s;
+      })
+
+  pub values : Values r
+  values =
+      record {
+        source = λ d i g h. source g (traced c steps (h .place) g (by-operation d (h .operation) (h .runs) (h .phase-two)));
+        returned =
+            λ d i k x h.
+            let is = gives-ended c steps d (suc k) x (h .after) in
+            source (x .register) (traced c steps (suc k) (x .register) (by-result d x is refl));
+      }
