@@ -1,0 +1,15 @@
+-- Theorems: how runs compute; runs of the plain machine, and its numbers; then the wrong stores that come close (paper 01), each refuted.
+pub mod Answers
+pub mod Computing
+pub mod Shown
+pub mod Refused
+pub mod Parts
+pub mod Refuting
+pub mod SheetAlone
+pub mod OtherSheet
+pub mod CountedTwice
+pub mod Unheard
+pub mod FixedTag
+pub mod NoRestarts
+pub mod Unequal
+pub mod SpentEarly

@@ -1,0 +1,27 @@
+-- Restarts reported as 0 break the clause on restarts, on the list of `Shown` in which two are made.
+use native.Mathlib.Omega.{arith}
+use mathlib.Core.Path.{_≡_, refl}
+use Rattle.machine.specs.Parties.{write}
+use Rattle.machine.specs.Runs.{Run}
+use Rattle.machine.specs.Operations.{Ends, restartsMade}
+use Rattle.machine.specs.Clauses.{Restarts}
+use Rattle.nearmiss.specs.Steps.{runBy, sale, sold, written}
+use Rattle.nearmiss.specs.NoRestarts.{resultWithout, noRestarts}
+use Rattle.nearmiss.proofs.Computing.{computing, ends-of}
+use Rattle.nearmiss.proofs.Shown.{twoRestarts}
+
+abbrev pub theirs : Run
+theirs = runBy noRestarts 3 1 (twoRestarts .steps)
+
+pub write-ends : Ends theirs 1 2 (write sale) 21 (written sold 0)
+unfolding computing resultWithout
+write-ends = ends-of theirs 1 2 (write sale) 21 (written sold 0) 0 11 refl refl refl refl refl refl refl
+
+pub made : restartsMade theirs 1 2 21 ≡ 2
+unfolding computing
+made = refl
+
+pub no-restarts-misreported : Restarts theirs → ⊥
+no-restarts-misreported restarts =
+    let none : 0 ≡ restartsMade theirs 1 2 21 = restarts .made 1 2 21 (write sale) (written sold 0) write-ends in
+    omega (arith, made)

@@ -1,0 +1,52 @@
+-- How a clause is refuted on a run, and how a store is told from the plain machine.
+use Prim.Native.Nat.{ℕ, _+_}
+use mathlib.Core.Path.{_≡_, refl, ap, sym, _∙_}
+use mathlib.Core.Bool.{true, false, true≢false}
+use mathlib.Core.List.{List}
+use borrow.Author.Tests.{ltb-true, eqb-false}
+use lib.Dec.{eqb, ltb}
+use Rattle.config.specs.Cluster.{configOf, validOf}
+use Rattle.machine.specs.Parties.{Register, below, Task, write, Result}
+use Rattle.machine.specs.Calls.{Answer, unmade, late, refused, done, wrote, told}
+use Rattle.machine.specs.Runs.{Step, Store, machine, Run, answerAt}
+use Rattle.machine.specs.Operations.{Ends, Chose}
+use Rattle.machine.specs.Clauses.{Order}
+use Rattle.nearmiss.specs.Steps.{runBy, SameAnswers}
+
+-- an operation that ended, and a later one with a lower tag
+pub lower-tag : {r : Run} {d i k : ℕ} {t : Task} {x : Result} {a : Register} {e j : ℕ} {u : Task} {b : Register}
+    → Ends r d i t k x → Chose r d i t a → ltb k j ≡ true → Chose r e j u b → below b a ≡ true → Order r → ⊥
+lower-tag {r} {d} {i} {k} {t} {x} {a} {e} {j} {u} {b} ends chose l later lower order =
+    true≢false (sym lower ∙ order d i k t x a ends chose e j u b (ltb-true k j l) later .0)
+
+-- an operation that ended, and a later write whose tag is no higher
+pub not-higher : {r : Run} {d i k : ℕ} {t : Task} {x : Result} {a : Register} {e j : ℕ} {v : List ℕ} {b : Register}
+    → Ends r d i t k x → Chose r d i t a → ltb k j ≡ true → Chose r e j (write v) b → below a b ≡ false → Order r → ⊥
+not-higher {r} {d} {i} {k} {t} {x} {a} {e} {j} {v} {b} ends chose l later lower order =
+    true≢false (sym (order d i k t x a ends chose e j (write v) b (ltb-true k j l) later .1 refl) ∙ lower)
+
+-- ---- the equality of answers
+
+-- answers told apart by a number
+abbrev pub codeOf : Answer → ℕ
+codeOf unmade = 0
+codeOf late = 1
+codeOf (refused k) = 2
+codeOf done = 3
+codeOf (told x) = 4
+codeOf (wrote k) = 5 + k
+
+-- on a list of steps a store answers a at place k where the plain machine answers b, and so it is not the machine's equal
+pub record Unequal (p : Store) (n f : ℕ) (l : List Step) (k : ℕ) (a b : Answer) : Type 0 where
+  pub theirs : answerAt (runBy p n f l) k ≡ a
+  pub ours : answerAt (runBy machine n f l) k ≡ b
+  pub differs : SameAnswers p → ⊥
+
+pub unequal : {p : Store} {n f : ℕ} {l : List Step} {k : ℕ} {a b : Answer} → answerAt (runBy p n f l) k ≡ a → answerAt (runBy machine n f l) k ≡ b
+    → validOf (configOf n f) ≡ true → eqb (codeOf a) (codeOf b) ≡ false → Unequal p n f l k a b
+unequal {p} {n} {f} {l} {k} {a} {b} theirs ours v apart =
+    record {
+      theirs = theirs;
+      ours = ours;
+      differs = λ h. eqb-false (codeOf a) (codeOf b) apart (ap codeOf (sym theirs ∙ h (configOf n f) v l k ∙ ours));
+    }
