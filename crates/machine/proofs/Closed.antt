@@ -18,8 +18,9 @@ use Rattle.quorums.proofs.Tests.{le-or-lt}
 use Rattle.quorums.proofs.Sums.{sum-add, sum-one, sum-rest}
 use Rattle.quorums.proofs.Differences.{pos-difference}
 use Rattle.quorums.proofs.Weights.{above-grows, above-lt, left-quorum}
-use Rattle.machine.specs.Sets.{Transfer, Transfers, has, union, count, received, given}
-use Rattle.machine.proofs.Histories.{Once, Gift, History, _⊇_, Known, Closed, accountsFrom, Follows, Ordered, Lawful, Lawfully}
+use Rattle.machine.specs.Sets.{Transfer, Transfers, has, union, count, received, given, accountsFrom}
+use Rattle.machine.specs.Calls.{mostCount}
+use Rattle.machine.proofs.Histories.{Once, Gift, History, _⊇_, Known, Closed, Follows, Ordered, Lawful, Lawfully}
 use Rattle.machine.proofs.Lists.{In}
 use Rattle.machine.proofs.Sets.{has-none, has-first, has-rest, has-each, union-either, union-left, union-right, once-union}
 use Rattle.machine.proofs.Sets.{tally-those, tally-one, tally-zero, tally-same, tally-sum}
@@ -218,7 +219,7 @@ module _ {n f : ℕ} {w : ℕ → ℕ} {h : History} (law : Lawfully n f w h) wh
         d .closed t (earlier-gift g (d .gift) p (d .made) (sym (d .giver)) (omega (arith, count-last (t .giver) d))))
         (last (t .giver))
 
-    pub count-most : (i : ℕ) → count a i ≤ 65535
+    pub count-most : (i : ℕ) → count a i ≤ mostCount
     count-most i =
         ⊎-elim (λ (none : NoneOf i a). omega (arith, count-none a i none))
         (λ (l : Last h a i). omega (arith, count-last i l, law .each (l .gift) (l .made) .number))

@@ -19,7 +19,7 @@ use Rattle.quorums.proofs.Weights.{above-is}
 use Rattle.config.specs.Cluster.{validOf, startOf, totalOf, aboveOf}
 use Rattle.config.specs.declared.cluster.Config.{Config}
 use Rattle.config.proofs.Clusters.{valid-bounds, total-is}
-use Rattle.machine.specs.Sets.{Transfer, Transfers, has, tally, count, given, received, weightOf}
+use Rattle.machine.specs.Sets.{Transfer, Transfers, has, tally, count, given, received, weightOf, accountsFrom}
 use Rattle.machine.specs.Parties.{Replica}
 use Rattle.machine.specs.Calls.{done, accept, given-away}
 use Rattle.machine.specs.Runs.{State, afterServer, put}
@@ -27,7 +27,7 @@ use Rattle.machine.proofs.Lists.{In}
 use Rattle.machine.proofs.Outcomes.{Giving}
 use Rattle.machine.proofs.Tags.{tag-refl}
 use Rattle.machine.proofs.Sets.{test-false, has-first, has-rest, has-cases}
-use Rattle.machine.proofs.Histories.{Gift, History, accountsFrom, Lawful, Good}
+use Rattle.machine.proofs.Histories.{Gift, History, Lawful, Good}
 use Rattle.machine.proofs.Closed.{Started, has-numbered, closed-most}
 use Rattle.machine.proofs.Replicas.{good-more}
 use Rattle.machine.proofs.Moves.{giftBy}

@@ -6,9 +6,10 @@ use mathlib.Core.Path.{_≡_}
 use mathlib.Core.Bool.{true, false}
 use mathlib.Core.List.{List, [], _∷_}
 use Rattle.quorums.specs.Sum.{sum}
-use Rattle.quorums.specs.Accounts.{Accounts, weight, above}
-use Rattle.machine.specs.Sets.{Transfer, Transfers, has, count, received, given}
+use Rattle.quorums.specs.Accounts.{weight, above}
+use Rattle.machine.specs.Sets.{Transfer, Transfers, has, count, accountsFrom}
 use Rattle.machine.specs.Parties.{Register, Replica}
+use Rattle.machine.specs.Calls.{mostCount}
 use Rattle.machine.specs.Clauses.{_≼_}
 use Rattle.machine.proofs.Lists.{In}
 
@@ -56,16 +57,13 @@ pub record Good (h : History) (r : Replica) : Type 0 where
 
 -- ---- what is true of each transfer ever made, of n servers of which f may crash, with start weights w
 
-abbrev pub accountsFrom : (ℕ → ℕ) → Transfers → Accounts
-accountsFrom w a = record { start = w; received = received a; given = given a }
-
 pub record Lawful (n f : ℕ) (w : ℕ → ℕ) (g : Gift) : Type 0 where
   pub giver : g .transfer .giver < n
   pub taker : g .transfer .taker < n
   pub other : g .transfer .taker ≡ g .transfer .giver → ⊥
   pub amount : 1 ≤ g .transfer .amount
   pub most : g .transfer .amount ≤ sum n w
-  pub number : g .transfer .number ≤ 65535
+  pub number : g .transfer .number ≤ mostCount
   -- the maker's set: it has the transfer, which is its maker's last, and the maker's weight is above the floor
   pub itself : has (g .snapshot) (g .transfer) ≡ true
   pub numbered : count (g .snapshot) (g .transfer .giver) ≡ g .transfer .number

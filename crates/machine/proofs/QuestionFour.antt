@@ -6,8 +6,8 @@ use mathlib.Core.Logic.{⊎-elim}
 use mathlib.Core.Bool.{Bool, true}
 use Rattle.quorums.specs.Accounts.{quorum}
 use Rattle.quorums.proofs.Meeting.{Shared, quorums-meet-across}
-use Rattle.machine.specs.Sets.{Transfer, Transfers, has, union, count}
-use Rattle.machine.proofs.Histories.{History, Closed, accountsFrom, Lawfully}
+use Rattle.machine.specs.Sets.{Transfer, Transfers, has, union, count, accountsFrom}
+use Rattle.machine.proofs.Histories.{History, Closed, Lawfully}
 use Rattle.machine.proofs.Sets.{union-either, union-left, union-right}
 use Rattle.machine.proofs.Closed.{AllOf, closed-union, closed-each, received-part, given-part, count-part, closed-total, closed-held, Started}
 

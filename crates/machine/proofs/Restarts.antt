@@ -45,7 +45,7 @@ unfolding stands
 brings-none a b e = ap (λ l. stands (length l)) (missing-none a b e)
 
 -- whether an answer tells a result
-abbrev tells : Answer → Bool
+abbrev pub tells : Answer → Bool
 tells unmade = false
 tells late = false
 tells (refused k) = false

@@ -65,9 +65,12 @@ given a i = tally (λ t. cond (eqb (t .giver) i) (t .amount) 0) a
 unfoldable pub received : Transfers → ℕ → ℕ
 received a j = tally (λ t. cond (eqb (t .taker) j) (t .amount) 0) a
 
--- weights and quorums come from these: start + received − given
+-- weights and quorums come from these: start + received − given, with the start weights w, and with the cluster's
+abbrev pub accountsFrom : (ℕ → ℕ) → Transfers → Accounts
+accountsFrom w a = record { start = w; received = received a; given = given a }
+
 abbrev pub accounts : Config → Transfers → Accounts
-accounts c a = record { start = startOf c; received = received a; given = given a }
+accounts c a = accountsFrom (startOf c) a
 
 unfoldable pub weightOf : Config → Transfers → ℕ → ℤ
 weightOf c a i = weight (accounts c a) i

@@ -18,8 +18,9 @@ use Rattle.format.specs.Bytes.{bytes, number, series, stands, marks, bit}
 use Rattle.format.specs.Table.{registerMark, register, cellMap, cells, rowMark, row, rowMap, rows, sheet, fieldMap, fieldMapOf, head, note, encodeFields}
 use Rattle.machine.specs.Sets.{same, has, includes, missing, union, tally, count, cell, given, received, weightOf, quorumOf}
 use Rattle.machine.specs.Parties.{below, higher, join, bytesOf, answered, Register, Task, by-phase, Activity, idle, running, ended, Operation, Result, Phase, first, second}
-use Rattle.machine.specs.Calls.{Answer, unmade, late, refused, done, wrote, told, send, transferBy, shareBy, serveBy, answerRequest, beginBy, askBy, hearBy, restart, choose, mark, resultBy, dropBy}
+use Rattle.machine.specs.Calls.{Answer, done, told, send, transferBy, shareBy, serveBy, answerRequest, beginBy, askBy, hearBy, restart, choose, mark, resultBy, dropBy}
 use Rattle.machine.specs.Runs.{Step, begin, ask, serve, hear, result, drop, transfer, share, crash, nth, when, onServer, onDesk, onCrash, take, Run, at, answerAt}
+use Rattle.machine.proofs.Restarts.{tells}
 use Rattle.machine.specs.Operations.{deskAt, Current, Gives, Ends, Chose, brings, brought, restartsMade, gain}
 
 -- all that a run computes through
@@ -66,15 +67,6 @@ current-of r d i t k noted s a l q =
         absurd (omega arith)
 
 -- ---- the end of an operation, and the register that it chose
-
--- whether an answer tells a result
-abbrev pub tells : Answer → Bool
-tells unmade = false
-tells late = false
-tells (refused k) = false
-tells done = false
-tells (wrote k) = false
-tells (told x) = true
 
 -- an answer that tells none is no told result
 pub not-told : (a : Answer) (x : Result) → tells a ≡ false → a ≡ told x → ⊥
