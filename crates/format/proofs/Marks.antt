@@ -29,6 +29,11 @@ unfolding stands
 stands-pos zero h = absurd (omega arith)
 stands-pos (suc x) h = refl
 
+pub stands-most : (x : ℕ) → stands x ≤ x
+unfolding stands
+stands-most zero = omega arith
+stands-most (suc x) = omega arith
+
 -- a number of 0 or 1 is its own mark
 pub stands-bit : (x : ℕ) → x ≤ 1 → stands x ≡ x
 unfolding stands

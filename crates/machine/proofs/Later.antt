@@ -18,7 +18,7 @@ use Rattle.machine.specs.Clauses.{_≼_}
 use Rattle.machine.proofs.Lists.{In}
 use Rattle.machine.proofs.Outcomes.{Hearing}
 use Rattle.machine.proofs.Tags.{tag-trans}
-use Rattle.machine.proofs.Sets.{has-none, has-first, has-rest, has-each}
+use Rattle.machine.proofs.Sets.{Fails, all-or-one}
 use Rattle.machine.proofs.Histories.{History, Good}
 use Rattle.machine.proofs.QuestionFour.{quorums-share}
 use Rattle.machine.proofs.Replicas.{good-join}
@@ -40,24 +40,6 @@ answered-replied (m ∷ l) i e = by-test (eqb (m .server) i) refl e (answered-re
     by-test : (t : Bool) → eqb (m .server) i ≡ t → cond t true (answered l i) ≡ true → (answered l i ≡ true → Replied l i) → Replied (m ∷ l) i
     by-test true f g rest = record { message = m; heard = inl refl; server = eqb-true (m .server) i f }
     by-test false f g rest = let y = rest g in record { message = y .message; heard = inr (y .heard); server = y .server }
-
--- a transfer of the set b that fails a test
-record Fails (test : Transfer → Bool) (b : Transfers) : Type 0 where
-  one : Transfer
-  there : has b one ≡ true
-  failed : test one ≡ false
-
-all-or-one : (test : Transfer → Bool) (b : Transfers) → ((t : Transfer) → has b t ≡ true → test t ≡ true) ⊎ Fails test b
-all-or-one test [] = inl (λ t e. absurd (has-none t e))
-all-or-one test (u ∷ b) = by-test (test u) refl (all-or-one test b)
-  where
-    by-test : (x : Bool) → test u ≡ x → ((t : Transfer) → has b t ≡ true → test t ≡ true) ⊎ Fails test b
-        → ((t : Transfer) → has (u ∷ b) t ≡ true → test t ≡ true) ⊎ Fails test (u ∷ b)
-    by-test true e rest =
-        ⊎-elim (λ (all : (t : Transfer) → has b t ≡ true → test t ≡ true). inl (has-each (λ t. test t ≡ true) u b e all))
-        (λ (x : Fails test b). inr (record { one = x .one; there = has-rest u (x .one) b (x .there); failed = x .failed }))
-        rest
-    by-test false e rest = inr (record { one = u; there = has-first u b; failed = e })
 
 module _ (c : Config) (valid : validOf c ≡ true) {h : History} {s : State} (inv : Invariant c h s) (a : Register) (S : Transfers) (q : ℕ → Bool)
     (rounds : ℕ → ℕ) (f : Following a S q rounds h s) (quorum : quorumOf c S q ≡ true) where

@@ -14,6 +14,7 @@ pub mod Tags
 pub mod Sets
 pub mod Joins
 pub mod Closed
+pub mod Numbers
 pub mod QuestionFour
 -- Operations: where they begin and end, their phases, results and restarts; where each register comes from, and values.
 pub mod Performed

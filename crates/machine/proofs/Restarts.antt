@@ -12,6 +12,7 @@ use lib.ListN.{length, length-append}
 use Rattle.quorums.specs.Sum.{sum}
 use Rattle.quorums.proofs.Sums.{sum-suc, sum-le, sum-zero}
 use Rattle.format.specs.Bytes.{stands}
+use Rattle.format.proofs.Marks.{stands-pos, stands-most}
 use Rattle.config.specs.declared.cluster.Config.{Config}
 use Rattle.machine.specs.Sets.{Transfer, Transfers, has, includes, missing, union}
 use Rattle.machine.specs.Parties.{Message, join, Task, Operation, Result, Activity, idle, running, ended, Desk}
@@ -27,18 +28,8 @@ use Rattle.machine.proofs.Performed.{NoBegin, current-earlier, current-
 
 -- ---- how a reply counts: 1 where it has a transfer that the desk's set lacks
 
-stands-le : (x : ℕ) → stands x ≤ x
-unfolding stands
-stands-le zero = omega arith
-stands-le (suc x) = omega arith
-
-stands-some : (x : ℕ) → 1 ≤ x → stands x ≡ 1
-unfolding stands
-stands-some zero l = absurd (omega arith)
-stands-some (suc x) l = refl
-
 brings-more : (a b : Transfers) → includes a b ≡ false → stands (length (missing a b)) ≡ 1
-brings-more a b e = stands-some (length (missing a b)) (missing-some a b e)
+brings-more a b e = stands-pos (length (missing a b)) (missing-some a b e)
 
 brings-none : (a b : Transfers) → includes a b ≡ true → stands (length (missing a b)) ≡ 0
 unfolding stands
@@ -154,7 +145,7 @@ module _ (c : Config) (steps : List Step) where
       (λ p l. at-most (ltb i p) (length (firstBrought r d p)))
     where
       at-most : (b : Bool) (x : ℕ) → cond b (stands x) 0 ≤ cond b x 0
-      at-most true x = stands-le x
+      at-most true x = stands-most x
       at-most false x = omega arith
 
   -- ---- the gain

@@ -71,6 +71,24 @@ pub has-each : (P : Transfer → Type 0) (t : Transfer) (a : Transfers) → P t 
     → (u : Transfer) → has (t ∷ a) u ≡ true → P u
 has-each P t a p h u e = ⊎-elim (λ (s : t ≡ u). subst P s p) (λ (k : has a u ≡ true). h u k) (has-cases t u a e)
 
+-- every transfer of a set passes a test, or one fails it
+pub record Fails (test : Transfer → Bool) (b : Transfers) : Type 0 where
+  pub one : Transfer
+  pub there : has b one ≡ true
+  pub failed : test one ≡ false
+
+pub all-or-one : (test : Transfer → Bool) (b : Transfers) → ((t : Transfer) → has b t ≡ true → test t ≡ true) ⊎ Fails test b
+all-or-one test [] = inl (λ t e. absurd (has-none t e))
+all-or-one test (u ∷ b) = by-test (test u) refl (all-or-one test b)
+  where
+    by-test : (x : Bool) → test u ≡ x → ((t : Transfer) → has b t ≡ true → test t ≡ true) ⊎ Fails test b
+        → ((t : Transfer) → has (u ∷ b) t ≡ true → test t ≡ true) ⊎ Fails test (u ∷ b)
+    by-test true e rest =
+        ⊎-elim (λ (all : (t : Transfer) → has b t ≡ true → test t ≡ true). inl (has-each (λ t. test t ≡ true) u b e all))
+        (λ (x : Fails test b). inr (record { one = x .one; there = has-rest u (x .one) b (x .there); failed = x .failed }))
+        rest
+    by-test false e rest = inr (record { one = u; there = has-first u b; failed = e })
+
 pub has-append : (a b : Transfers) (t : Transfer) → has (a ++ b) t ≡ cond (has a t) true (has b t)
 unfolding has
 has-append [] b t = refl

@@ -20,6 +20,7 @@ use Rattle.machine.proofs.Lists.{In, nth-in}
 use Rattle.machine.proofs.Places.{from-on}
 use Rattle.machine.proofs.Histories.{Gift, History, Closed, Lawfully}
 use Rattle.machine.proofs.Closed.{closed-more, closed-union, has-numbered, numbered-has, closed-total, closed-floor, closed-majority}
+use Rattle.machine.proofs.Numbers.{Numbered, no-gap}
 use Rattle.machine.proofs.QuestionFour.{quorums-share-counted}
 use Rattle.machine.proofs.GiftsKept.{started}
 use Rattle.machine.proofs.Moves.{giftOf}
@@ -71,6 +72,10 @@ module _ (c : Config) (valid : validOf c ≡ true) (steps : List Step) where
   found-prefix k a f g m =
       let law = invariant c valid steps k .lawful in
       (has-numbered law (found-closed k a f) g m, numbered-has law (found-closed k a f) g m)
+
+  -- in which each giver's numbers run from 1 without a gap
+  pub found-numbers : (k : ℕ) (a : Transfers) → Found r k a → (i j : ℕ) → 1 ≤ j → j ≤ count a i → Numbered a i j
+  found-numbers k a f i j = no-gap (invariant c valid steps k .lawful) (found-closed k a f) i j
 
   -- ---- the clause
 
