@@ -30,10 +30,10 @@ array-fits w n xs vs h k = each-fits w xs (h .0) (h .1 .1) k
 
 -- the same of an array that is a field
 
-field-length : (w : Width) (n : ℕ) (xs : List ℕ) (vs : List Val) → Is (Array (UInt w) n) (map (λ (v : ℕ). v) xs) vs → length xs ≡ n
+pub field-length : (w : Width) (n : ℕ) (xs : List ℕ) (vs : List Val) → Is (Array (UInt w) n) (map (λ (v : ℕ). v) xs) vs → length xs ≡ n
 field-length w n xs vs h = sym (length-map xs (λ v. v)) ∙ array-length w n (map (λ v. v) xs) vs h
 
-field-fits : (w : Width) (n : ℕ) (xs : List ℕ) (vs : List Val) → Is (Array (UInt w) n) (map (λ (v : ℕ). v) xs) vs → (k : ℕ) → getD xs k 0 < 2 ^ bits w
+pub field-fits : (w : Width) (n : ℕ) (xs : List ℕ) (vs : List Val) → Is (Array (UInt w) n) (map (λ (v : ℕ). v) xs) vs → (k : ℕ) → getD xs k 0 < 2 ^ bits w
 field-fits w n xs vs h k = rw (List·getD-map (λ v. v) xs k 0) at (array-fits w n (map (λ v. v) xs) vs h k)
 
 pub ledger-typed : (l : Ledger) (vs : List Val) → Is (rowOf L.the-type) l vs → Typed l

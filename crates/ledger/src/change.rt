@@ -38,7 +38,7 @@ impl Ledger {
 }
 
 // Whether the taker is another server of the cluster and something is given.
-fn lawful(config: Config, giver: u64, taker: u64, amount: u64) -> bool
+pub fn lawful(config: Config, giver: u64, taker: u64, amount: u64) -> bool
     ensures { λ r. ⌜ r ≡ lawfulOf config giver taker amount ⌝ }
 {
     if giver == taker {

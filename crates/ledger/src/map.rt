@@ -17,7 +17,7 @@ pub fn count_named(config: Config, map: u16) -> Number
 }
 
 // Whether the cluster is within bounds and the map names servers of it only.
-pub(crate) fn within(config: Config, map: u16) -> bool
+pub fn within(config: Config, map: u16) -> bool
     ensures { λ r. ⌜ r ≡ mapOf config map ⌝ }
 {
     if !config.valid() {

@@ -9,7 +9,7 @@ use lib.Dec.{ltb}
 use lib.ListN.{length}
 use Rattle.config.specs.Cluster.{validOf}
 use Rattle.config.specs.declared.cluster.Config.{Config}
-use Rattle.ledger.specs.Checks.{bounded}
+use Rattle.ledger.specs.Checks.{bounded, aboveFloor}
 use Rattle.format.specs.Bytes.{number}
 use Rattle.format.specs.Table.{register, head, note}
 use Rattle.message.specs.declared.header.Header.{Header}
@@ -31,6 +31,7 @@ pub record Taken (c : Config) (h : Header) (v : List ℕ) : Type 0 where
   pub server-good : h .server < c .n
   pub register-good : registerFits (h .tag .stamp) (h .tag .desk) (length v) ≡ true
   pub ledger-good : bounded c (h .ledger) ≡ true
+  pub floor-good : aboveFloor c (h .ledger) ≡ true
 
 pub taken-told : (c : Config) (h : Header) (v : List ℕ) → Typed h v → check c (encode c h v) ≡ 0 → Taken c h v
 unfolding faultOf
@@ -41,6 +42,7 @@ taken-told c h v ty e =
     let server = passed (ltb (h .server) (c .n)) 3 _ (fields .1) in
     let register = passed (registerFits (h .tag .stamp) (h .tag .desk) (length v)) 3 _ (server .1) in
     let bounds = passed (bounded c (h .ledger)) 3 _ (register .1) in
+    let floor = passed (aboveFloor c (h .ledger)) 4 0 (bounds .1) in
     record {
       valid = valid .0;
       kind-good = kind .0;
@@ -48,6 +50,7 @@ taken-told c h v ty e =
       server-good = ltb-true _ _ (server .0);
       register-good = register .0;
       ledger-good = bounds .0;
+      floor-good = floor .0;
     }
 
 -- reading undoes writing

@@ -1,10 +1,11 @@
 -- Laws. `Faults`: the writer's number is the reader's. `Found`: reading undoes writing. `Rounds`: writing undoes reading. `Longest`: 1,111 bytes.
--- `Numbers`: a verdict has the number that the check found. `Parts` is for the call that hands back a value, `Ranges` for what a call knows of a header.
+-- `Numbers`: a verdict has the number that the check found. `Starts` and `Parts` are for the calls on registers and values, `Ranges` for what a call knows of a header.
 -- The others lead there: `Stuck` and `Sticky` say that the first fault stays, `Ahead` to `Registers` go
 -- forwards over bytes that were written, `Backs` to `FieldBacks` back over bytes that were read.
 pub mod Stuck
 pub mod Sticky
 pub mod Numbers
+pub mod Starts
 pub mod Parts
 pub mod Ranges
 pub mod Ahead

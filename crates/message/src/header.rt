@@ -2,6 +2,7 @@
 use ledger::Ledger;
 ghost use mathlib.Core.Path.{_≡_};
 ghost use Rattle.message.specs.Headers.{blankHeader};
+ghost use Rattle.message.specs.Faults.{registerFits};
 
 // A register's tag.
 #[repr(C)]
@@ -38,4 +39,20 @@ impl Header {
             note: 0,
         }
     }
+}
+
+// Whether a register is the start, or has a stamp, a desk and a value of up to 64 bytes.
+pub fn register_fits(stamp: u32, desk: u16, length: usize) -> bool
+    ensures { λ r. ⌜ r ≡ registerFits stamp desk length ⌝ }
+{
+    if stamp == 0 {
+        if desk == 0 {
+            return length == 0;
+        }
+        return false;
+    }
+    if desk == 0 {
+        return false;
+    }
+    length <= 64
 }

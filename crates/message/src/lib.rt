@@ -8,6 +8,7 @@ pub use answer::Fields;
 pub use answer::refusal;
 pub use header::Header;
 pub use header::Tag;
+pub use header::register_fits;
 pub use state::Cursor;
 pub use state::HeadRead;
 pub use state::RegisterRead;

@@ -1,8 +1,7 @@
--- Laws, in reading order: bytes over a buffer, numbers and values, a header's tests, maps, what a call knows of its arguments, rows, whole messages,
+-- Laws, in reading order: bytes over a buffer, numbers and values, maps, what a call knows of its arguments, rows, whole messages,
 -- and the answers.
 pub mod Overs
 pub mod Puts
-pub mod Faults
 pub mod Outlines
 pub mod Rows
 pub mod Messages

@@ -2,8 +2,9 @@
 use config::Config;
 use config::Verdict;
 use message::Header;
+use message::register_fits;
 ghost use mathlib.Core.Path.{_≡_};
-ghost use Rattle.message.specs.Faults.{kindFits, registerFits, faultOf};
+ghost use Rattle.message.specs.Faults.{kindFits, faultOf};
 
 // Whether the fields that stand are those that the kind has.
 pub(crate) fn kind_fits(kind: u8, desk: u16, round: u32, note: u32) -> bool
@@ -22,22 +23,6 @@ pub(crate) fn kind_fits(kind: u8, desk: u16, round: u32, note: u32) -> bool
         return false;
     }
     round != 0
-}
-
-// Whether a register is the start, or has a stamp, a desk and a value of up to 64 bytes.
-pub(crate) fn register_fits(stamp: u32, desk: u16, length: usize) -> bool
-    ensures { λ r. ⌜ r ≡ registerFits stamp desk length ⌝ }
-{
-    if stamp == 0 {
-        if desk == 0 {
-            return length == 0;
-        }
-        return false;
-    }
-    if desk == 0 {
-        return false;
-    }
-    length <= 64
 }
 
 pub(crate) fn fault(config: Config, header: Header, length: usize) -> u64

@@ -1,10 +1,10 @@
 -- `register_fits` meets its contract, test by test: a stamp or a desk means that the register is not the start.
 use native.Mathlib.Omega.{arith}
 use borrow.Author.Tests.{eq-eqb, ne-eqb}
 use Rattle.message.specs.Faults.{registerFits}
-use Rattle.writer.proofs.Faults.{start-fits, not-start}
-use Rattle.writer.proofs.header.register_fits.Statement.{statement}
-use Rattle.writer.proofs.header.register_fits.Tie as tie
+use Rattle.message.proofs.Starts.{start-fits, not-start}
+use Rattle.message.proofs.header.register_fits.Statement.{statement}
+use Rattle.message.proofs.header.register_fits.Tie as tie
 
 returns : tie.Need-returns
 returns c = start-fits _ _ _ (c .before .if1 .taken) (c .if2 .taken)

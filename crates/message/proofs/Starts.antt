@@ -1,4 +1,4 @@
--- What the tests of a header tell.
+-- What the test of a register tells of the start.
 use Prim.Native.Nat.{ℕ, _+_}
 use native.Mathlib.Omega.{arith}
 use mathlib.Core.Path.{_≡_, refl}
