@@ -1,0 +1,9 @@
+-- Laws: values, registers, replicas and their join, and messages that carry a replica, read and written. `Ranges` is for what a call knows of its arguments, `Told` for
+-- what the ledger's answers tell.
+pub mod Ranges
+pub mod Values
+pub mod Registers
+pub mod Told
+pub mod Replicas
+pub mod Envelopes
+pub mod Placed

@@ -1,0 +1,74 @@
+-- What the ledger's answers tell of a replica.
+use mathlib.Core.Path.{_≡_, refl, sym, ap, _∙_}
+use mathlib.Core.Bool.{Bool, true, false, cond}
+use Rattle.config.specs.Cluster.{validOf}
+use Rattle.config.specs.declared.cluster.Config.{Config}
+use Rattle.config.specs.declared.answer.Refusal.{Refusal}
+use Rattle.config.specs.declared.answer.Verdict.{Verdict}
+use Rattle.ledger.specs.declared.ledger.Ledger.{Ledger}
+use Rattle.ledger.specs.declared.ledger.Changed.{Changed}
+use Rattle.ledger.specs.Ledgers.{accepted, refused}
+use Rattle.ledger.specs.Checks.{bounded, aboveFloor, checkAnswer}
+use Rattle.ledger.specs.Joins.{joins, joined, mergeAnswer}
+use Rattle.ledger.proofs.Checks.{accepted-not-refused}
+use Rattle.replica.specs.declared.replica.Replica.{Replica}
+use Rattle.replica.specs.Registers.{fits as fitsRegister}
+use Rattle.replica.specs.Replicas.{fits}
+
+-- what `check` answers
+abbrev checked : Bool → Bool → Bool → Verdict
+checked v b f = cond v (cond b (cond f Verdict.Accepted (Verdict.Refused Refusal.Light)) (Verdict.Refused Refusal.OddField)) (Verdict.Refused Refusal.BadHouse)
+
+-- a replica whose ledger passes the check fits where its register does
+pub fits-told : (c : Config) (r : Replica) → checkAnswer c (r .ledger) ≡ Verdict.Accepted → fitsRegister (r .register) ≡ fits c r
+unfolding fits checkAnswer
+fits-told c r e = by-tests (validOf c) (bounded c (r .ledger)) (aboveFloor c (r .ledger)) e
+  where
+    by-tests : (v b f : Bool) → checked v b f ≡ Verdict.Accepted → fitsRegister (r .register) ≡ cond v (cond b (cond f (fitsRegister (r .register)) false) false) false
+    by-tests true true true d = refl
+    by-tests true true false d = accepted-not-refused _ (sym d)
+    by-tests true false f d = accepted-not-refused _ (sym d)
+    by-tests false b f d = accepted-not-refused _ (sym d)
+
+-- and one whose ledger does not pass it does not fit
+pub fits-refused : (c : Config) (r : Replica) (k : Refusal) → checkAnswer c (r .ledger) ≡ Verdict.Refused k → false ≡ fits c r
+unfolding fits checkAnswer
+fits-refused c r k e = by-tests (validOf c) (bounded c (r .ledger)) (aboveFloor c (r .ledger)) e
+  where
+    by-tests : (v b f : Bool) → checked v b f ≡ Verdict.Refused k → false ≡ cond v (cond b (cond f (fitsRegister (r .register)) false) false) false
+    by-tests true true true d = accepted-not-refused k d
+    by-tests true true false d = refl
+    by-tests true false f d = refl
+    by-tests false b f d = refl
+
+-- what `merge` answers of a cluster that is one
+abbrev merged : Ledger → Ledger → Bool → Bool → Changed
+merged a b j f = cond j (cond f (accepted (joined a b)) (refused Refusal.Clash a)) (refused Refusal.Clash a)
+
+-- ledgers that merge join, and are above the floor together
+pub merge-told : (c : Config) (a b : Ledger) (r : Changed)
+    → validOf c ≡ true
+    → r ≡ mergeAnswer c a b
+    → r .verdict ≡ Verdict.Accepted
+    → (joins a b ≡ true) × (aboveFloor c (joined a b) ≡ true) × (r .ledger ≡ joined a b)
+unfolding mergeAnswer
+merge-told c a b r v e t = by-tests (joins a b) (aboveFloor c (joined a b)) (rw v at e)
+  where
+    by-tests : (j f : Bool) → r ≡ merged a b j f → (j ≡ true) × (f ≡ true) × (r .ledger ≡ joined a b)
+    by-tests true true d = (refl, refl, ap (λ x. x .ledger) d)
+    by-tests true false d = accepted-not-refused _ (sym t ∙ ap (λ x. x .verdict) d)
+    by-tests false f d = accepted-not-refused _ (sym t ∙ ap (λ x. x .verdict) d)
+
+-- ledgers that do not merge do not join, or are not above the floor together
+pub merge-refused : (c : Config) (a b : Ledger) (r : Changed) (k : Refusal)
+    → validOf c ≡ true
+    → r ≡ mergeAnswer c a b
+    → r .verdict ≡ Verdict.Refused k
+    → cond (joins a b) (aboveFloor c (joined a b)) false ≡ false
+unfolding mergeAnswer
+merge-refused c a b r k v e t = by-tests (joins a b) (aboveFloor c (joined a b)) (rw v at e)
+  where
+    by-tests : (j f : Bool) → r ≡ merged a b j f → cond j f false ≡ false
+    by-tests true true d = accepted-not-refused k (sym (ap (λ x. x .verdict) d) ∙ t)
+    by-tests true false d = refl
+    by-tests false f d = refl

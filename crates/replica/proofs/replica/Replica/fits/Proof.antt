@@ -1,0 +1,28 @@
+-- `fits` meets its contract: the ledger's check first, then the register.
+use mathlib.Core.Path.{sym, _∙_}
+use borrow.Author.Needs.{needs}
+use Rattle.replica.proofs.Told.{fits-told, fits-refused}
+use Rattle.replica.proofs.replica.Replica.fits.Statement.{statement}
+use Rattle.replica.proofs.replica.Replica.fits.Tie as tie
+
+check-requires : tie.Need-check-requires
+check-requires c κs = search needs
+
+enum-told : tie.Need-enum-told
+enum-told c = search needs
+
+enum-told-2 : tie.Need-enum-told-2
+enum-told-2 c = search needs
+
+returns : tie.Need-returns
+returns c = fits-refused _ _ _ (sym (c .before .before .check .ensures) ∙ c .enum-told2 .given .1)
+
+fits-requires : tie.Need-fits-requires
+fits-requires c κs = search needs
+
+returns-2 : tie.Need-returns-2
+returns-2 c = c .fits2 .ensures ∙ fits-told _ _ (sym (c .before .before .before .check .ensures) ∙ c .before .enum-told .given .1)
+
+pub fits-spec : {M : Type 1} → statement M
+fits-spec =
+    tie.close (tie.spec check-requires enum-told enum-told-2 returns fits-requires returns-2)
