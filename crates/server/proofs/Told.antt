@@ -1,0 +1,151 @@
+-- What the answers of the parts of a call tell: of a join, and of serve at each of its tests.
+use Prim.Native.Nat.{ℕ}
+use mathlib.Core.Path.{_≡_, refl, sym, ap, _∙_}
+use mathlib.Core.Bool.{Bool, true, false, cond, not, false≢true}
+use mathlib.Core.List.{List}
+use lib.Dec.{eqb, ltb}
+use lib.ListN.{length}
+use Rattle.config.specs.Cluster.{validOf}
+use Rattle.config.specs.declared.answer.Refusal.{Refusal}
+use Rattle.config.specs.declared.answer.Verdict.{Verdict}
+use Rattle.config.specs.declared.answer.Verdict.the-variants.{Accepted, Refused}
+use Rattle.config.specs.declared.answer.Number.{Number}
+use Rattle.ledger.specs.Ledgers.{countOf}
+use Rattle.ledger.proofs.Checks.{accepted-not-refused}
+use Rattle.message.specs.Answers.{fits as room}
+use Rattle.replica.specs.declared.envelope.Envelope.{Envelope}
+use Rattle.replica.specs.declared.envelope.Received.{Received}
+use Rattle.replica.specs.declared.replica.Replica.{Replica}
+use Rattle.replica.specs.declared.replica.Joined.{Joined}
+use Rattle.replica.specs.Replicas.{joinable, join, joinAnswer, accepted, refused as notJoined}
+use Rattle.replica.specs.Envelopes.{place, receiveOf}
+use Rattle.server.specs.declared.record.Server.{Server}
+use Rattle.server.specs.declared.serve.Served.{Served}
+use Rattle.server.specs.Servers.{fits}
+use Rattle.server.specs.Serves.{Outcome, refuse, refused, stray, clashes, joinOf, joinedServer, replyMessage, replyOf, serveFields, serveOf}
+
+-- ---- a join
+
+-- whether a replica knows more transfers of a server's than it made
+abbrev more : Server → Replica → Bool
+more s r = ltb (countOf (s .replica .ledger) (s .number)) (countOf (r .ledger) (s .number))
+
+-- what `join` answers in a cluster that is one, by that and by whether the replicas join
+abbrev answered : Server → Replica → Bool → Bool → Joined
+answered s r m j =
+    cond m (notJoined Refusal.Clash (s .replica)) (cond j (accepted (join (s .replica) r)) (notJoined Refusal.Clash (s .replica)))
+
+join-is : (s : Server) (r : Replica) → validOf (s .config) ≡ true → joinOf s r ≡ answered s r (more s r) (joinable (s .config) (s .replica) r)
+unfolding joinOf joinAnswer
+join-is s r v = rw v refl
+
+-- what is accepted does not clash, and is the replicas together
+pub join-told : (s : Server) (r : Replica) (x : Joined)
+    → validOf (s .config) ≡ true
+    → x ≡ joinOf s r
+    → x .verdict ≡ Verdict.Accepted
+    → (clashes s r ≡ false) × (x .replica ≡ join (s .replica) r)
+unfolding clashes
+join-told s r x v e t = by-tests (more s r) (joinable (s .config) (s .replica) r) (e ∙ join-is s r v)
+  where
+    by-tests : (m j : Bool) → x ≡ answered s r m j → (cond m true (not j) ≡ false) × (x .replica ≡ join (s .replica) r)
+    by-tests true j d = accepted-not-refused _ (sym t ∙ ap (λ y. y .verdict) d)
+    by-tests false true d = (refl, ap (λ y. y .replica) d)
+    by-tests false false d = accepted-not-refused _ (sym t ∙ ap (λ y. y .verdict) d)
+
+-- what is refused clashes
+pub join-refused : (s : Server) (r : Replica) (x : Joined) (k : Refusal)
+    → validOf (s .config) ≡ true
+    → x ≡ joinOf s r
+    → x .verdict ≡ Verdict.Refused k
+    → clashes s r ≡ true
+unfolding clashes
+join-refused s r x k v e t = by-tests (more s r) (joinable (s .config) (s .replica) r) (e ∙ join-is s r v)
+  where
+    by-tests : (m j : Bool) → x ≡ answered s r m j → cond m true (not j) ≡ true
+    by-tests true j d = refl
+    by-tests false true d = accepted-not-refused _ (sym (ap (λ y. y .verdict) d) ∙ t)
+    by-tests false false d = refl
+
+-- a replica that does not clash joins with the server's
+pub clear-joinable : (s : Server) (r : Replica) → clashes s r ≡ false → joinable (s .config) (s .replica) r ≡ true
+unfolding clashes
+clear-joinable s r e = by-tests (more s r) (joinable (s .config) (s .replica) r) e
+  where
+    by-tests : (m j : Bool) → cond m true (not j) ≡ false → j ≡ true
+    by-tests true j d = absurd (false≢true (sym d))
+    by-tests false true d = refl
+    by-tests false false d = absurd (false≢true (sym d))
+
+-- ---- a refusal
+
+-- what `unserved` gives is the record's part of a refusal
+pub refuse-told : (x : Served) (o : Outcome) (k : Refusal) (s : Server) (out : List ℕ)
+    → x ≡ refused k s
+    → o ≡ refuse k s out
+    → (x .answer ≡ o .answer) × (x .server ≡ o .server) × (out ≡ o .out)
+refuse-told x o k s out d e = (
+  ap (λ (y : Served). y .answer) d ∙ sym (ap (λ (y : Outcome). y .answer) e),
+  ap (λ (y : Served). y .server) d ∙ sym (ap (λ (y : Outcome). y .server) e),
+  sym (ap (λ (y : Outcome). y .out) e),
+)
+
+-- ---- serve of the fields of a message
+
+pub fields-stray : (s : Server) (e : Envelope) (r : Replica) (out : List ℕ) (at : ℕ)
+    → stray s e ≡ true
+    → serveFields s e r out at ≡ refuse Refusal.Stray s out
+unfolding serveFields
+fields-stray s e r out at t = rw t refl
+
+pub fields-clash : (s : Server) (e : Envelope) (r : Replica) (out : List ℕ) (at : ℕ)
+    → stray s e ≡ false
+    → clashes s r ≡ true
+    → serveFields s e r out at ≡ refuse Refusal.Clash s out
+unfolding serveFields
+fields-clash s e r out at t c = rw (t, c) refl
+
+pub fields-share : (s : Server) (e : Envelope) (r : Replica) (out : List ℕ) (at : ℕ)
+    → stray s e ≡ false
+    → clashes s r ≡ false
+    → eqb (e .kind) 3 ≡ true
+    → serveFields s e r out at ≡ record { answer = Number.Value at; server = joinedServer s r; out = out }
+unfolding serveFields
+fields-share s e r out at t c k = rw (t, c, k) refl
+
+pub fields-reply : (s : Server) (e : Envelope) (r : Replica) (out : List ℕ) (at : ℕ)
+    → stray s e ≡ false
+    → clashes s r ≡ false
+    → eqb (e .kind) 3 ≡ false
+    → serveFields s e r out at ≡ replyOf s (joinedServer s r) (replyMessage (joinedServer s r) e) out at
+unfolding serveFields
+fields-reply s e r out at t c k = rw (t, c, k) refl
+
+-- ---- a reply that has room, and one that has none
+
+pub reply-written : (s t : Server) (m out : List ℕ) (at : ℕ)
+    → room (length out) at (length m) ≡ true
+    → replyOf s t m out at ≡ record { answer = place m out at .answer; server = t; out = place m out at .out }
+unfolding replyOf
+reply-written s t m out at b = rw b refl
+
+pub reply-narrow : (s t : Server) (m out : List ℕ) (at : ℕ) → room (length out) at (length m) ≡ false → replyOf s t m out at ≡ refuse Refusal.Narrow s out
+unfolding replyOf
+reply-narrow s t m out at b = rw b refl
+
+-- ---- serve of a message
+
+module _ (s : Server) (msg out : List ℕ) (at : ℕ) where
+  pub serve-unfit : fits s ≡ false → serveOf s msg out at ≡ refuse Refusal.BadHouse s out
+  unfolding serveOf
+  serve-unfit f = rw f refl
+
+  -- x is what the message says
+  module _ (x : Received) (f : fits s ≡ true) (d : x ≡ receiveOf (s .config) msg) where
+    pub serve-taken : x .verdict ≡ Verdict.Accepted → serveOf s msg out at ≡ serveFields s (x .envelope) (x .replica) out at
+    unfolding serveOf
+    serve-taken v = rw (← d, f, v) refl
+
+    pub serve-untaken : (k : Refusal) → x .verdict ≡ Verdict.Refused k → serveOf s msg out at ≡ refuse k s out
+    unfolding serveOf
+    serve-untaken k v = rw (← d, f, v) refl

@@ -1,0 +1,95 @@
+-- `serve` meets its contract: a message that the reader takes has passed its checks, so its fields are served.
+use native.Mathlib.Omega.{arith}
+use mathlib.Core.Path.{_≡_, sym, ap, _∙_}
+use mathlib.Core.Bool.{true}
+use borrow.Author.Needs.{needs}
+use borrow.Author.Tests.{not-true, not-false}
+use denote.Ref.{now}
+use Rattle.config.specs.declared.answer.Verdict.{Verdict}
+use Rattle.message.specs.Headers.{Bytes}
+use Rattle.replica.specs.declared.envelope.Received.{Received}
+use Rattle.replica.specs.Envelopes.{receiveOf}
+use Rattle.replica.proofs.Envelopes.{receive-told}
+use Rattle.server.specs.Servers.{fits}
+use Rattle.server.proofs.Told.{refuse-told, serve-unfit, serve-taken, serve-untaken}
+use Rattle.server.proofs.record.Server.serve.Statement.{statement}
+use Rattle.server.proofs.record.Server.serve.Tie as tie
+
+fits-requires : tie.Need-fits-requires
+fits-requires c κs = search needs
+
+unserved-requires : tie.Need-unserved-requires
+unserved-requires c κs = search needs
+
+returns : tie.Need-returns
+returns c =
+    let unfit = sym (c .before .before .fits2 .ensures) ∙ not-true _ (c .before .if1 .taken) in
+    refuse-told _ _ _ _ _ (c .unserved .ensures) (serve-unfit _ _ _ _ unfit)
+
+abbrev entry : tie.After-receive → tie.Start
+entry c = c .before .before .before .before .before
+
+fitting : (c : tie.After-receive) → fits (entry c .args .self) ≡ true
+fitting c = sym (c .before .before .fits2 .ensures) ∙ not-false _ (c .before .if1 .left)
+
+receive-requires : tie.Need-receive-requires
+receive-requires c κs = search needs
+
+enum-told : tie.Need-enum-told
+enum-told c = search needs
+
+-- the message is taken
+
+abbrev got : tie.After-enum-told → tie.After-receive
+got c = c .before .before .before .before
+
+accepts : (c : tie.After-enum-told)
+    → receiveOf (entry (got c) .args .self .config) (now (entry (got c) .args .msg)) .verdict ≡ Verdict.Accepted
+accepts c = sym (ap (λ (x : Received). x .verdict) (got c .receive .ensures)) ∙ c .enum-told .given .1
+
+serve-fields-requires : tie.Need-serve-fields-requires
+serve-fields-requires c κs =
+    let taken : tie.After-enum-told = c .before in
+    let s = entry (got taken) in
+    let known = got taken .before .before .before .before .shared-slice-known .given in
+    let bytes : Bytes (now (s .args .msg)) = record { byte = λ k. omega (arith, known k) } in
+    (fitting (got taken), rw (got taken .receive .ensures) (receive-told (s .args .self .config) (now (s .args .msg)) bytes (accepts taken)))
+
+enum-known-verdict : tie.Need-enum-known-verdict
+enum-known-verdict c = search needs
+
+unserved-requires-2 : tie.Need-unserved-requires-2
+unserved-requires-2 c κs = search needs
+
+same-length : tie.Need-same-length
+same-length c = search needs
+
+returns-2 : tie.Need-returns-2
+returns-2 c =
+    let taken : tie.After-enum-told = c .before .before .before .before in
+    let s = entry (got taken) in
+    let served =
+    serve-taken (s .args .self) (now (s .args .msg)) (now (s .args .out)) (s .args .at) _ (fitting (got taken)) (got taken .receive .ensures)
+    (taken .enum-told .given .1) in
+    rw served (c .before .before .serve-fields .ensures)
+
+returns-3 : tie.Need-returns-3
+returns-3 c =
+    let r : tie.After-receive = c .before .before .before .before .before .before in
+    refuse-told _ _ _ _ _ (c .unserved2 .ensures) (serve-untaken _ _ _ _ _ (fitting r) (r .receive .ensures) _ (c .before .before .verdict .given .1))
+
+pub serve-spec : {M : Type 1} → statement M
+serve-spec =
+    tie.close
+    (tie.spec
+    fits-requires
+    unserved-requires
+    returns
+    receive-requires
+    enum-told
+    serve-fields-requires
+    enum-known-verdict
+    unserved-requires-2
+    same-length
+    returns-2
+    returns-3)

@@ -1,0 +1,9 @@
+// A server of the store (paper 01, "Server"). Its record goes in by value and comes back by value; every call tests it first.
+mod record;
+mod serve;
+mod share;
+mod transfer;
+
+pub use record::Server;
+pub use record::ServerAnswer;
+pub use serve::Served;

@@ -1,0 +1,74 @@
+// The record of a server, and how one is opened.
+use config::Config;
+use config::Refusal;
+use config::Verdict;
+use replica::Replica;
+ghost use mathlib.Core.Path.{_≡_};
+ghost use Rattle.server.specs.Servers.{fits as fitsOf, blankServer, openOf, refused as refusedOf};
+
+#[repr(C)]
+pub struct Server {
+    pub config: Config,
+    pub number: u64,
+    pub replica: Replica,
+}
+
+// What a call hands back: the record changed, or as it was where the verdict is a refusal.
+pub struct ServerAnswer {
+    pub verdict: Verdict,
+    pub server: Server,
+}
+
+impl Server {
+    // A fresh record for server `number` of n, of which f may crash: 1, and a record with every field 0, where they are out of bounds.
+    pub fn open(n: u64, f: u64, number: u64) -> ServerAnswer
+        ensures { λ r. ⌜ r ≡ openOf n f number ⌝ }
+    {
+        let config = Config::of(n, f);
+        if !config.has(number) {
+            let blank = Server::blank();
+            return blank.refused(Refusal::BadHouse);
+        }
+        ServerAnswer {
+            verdict: Verdict::Accepted,
+            server: Server {
+                config,
+                number,
+                replica: Replica::fresh(),
+            },
+        }
+    }
+
+    // The record test: whether every field is within the paper's bounds and the ledger is not light.
+    pub fn fits(self) -> bool
+        ensures { λ r. ⌜ r ≡ fitsOf self ⌝ }
+    {
+        let config = self.config;
+        if !config.has(self.number) {
+            return false;
+        }
+        let replica = self.replica;
+        replica.fits(config)
+    }
+
+    // The record with every field 0, which stands beside a refusal to open one.
+    fn blank() -> Server
+        ensures { λ r. ⌜ r ≡ blankServer ⌝ }
+    {
+        Server {
+            config: Config::of(0, 0),
+            number: 0,
+            replica: Replica::fresh(),
+        }
+    }
+
+    // A refusal, with the record as it was.
+    pub(crate) fn refused(self, refusal: Refusal) -> ServerAnswer
+        ensures { λ r. ⌜ r ≡ refusedOf refusal self ⌝ }
+    {
+        ServerAnswer {
+            verdict: Verdict::Refused(refusal),
+            server: self,
+        }
+    }
+}

@@ -1,0 +1,29 @@
+// A server tells what it holds (paper 01, "Server": Share).
+use super::record::Server;
+use config::Number;
+use config::Refusal;
+use replica::Envelope;
+use replica::SHARE;
+ghost use mathlib.Core.Path.{_≡_};
+ghost use Rattle.server.specs.Shares.{shareOf};
+
+impl Server {
+    // Writes a share into a buffer from a place on, and hands back the place after it: 1 for the record, 13 where it does not fit.
+    pub fn share(self, out: &mut [u8], at: usize) -> Number
+        ensures { λ r. ⌜ (r ≡ shareOf self (now (out .entry)) at .answer) × (now (out .exit) ≡ shareOf self (now (out .entry)) at .out) ⌝ }
+    {
+        if !self.fits() {
+            return Number::Refused(Refusal::BadHouse);
+        }
+        let config = self.config;
+        let replica = self.replica;
+        let envelope = Envelope {
+            kind: SHARE,
+            server: self.number as u8,
+            desk: 0,
+            round: 0,
+            note: 0,
+        };
+        replica.send(config, envelope, out, at)
+    }
+}
