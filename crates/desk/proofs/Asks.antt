@@ -1,0 +1,86 @@
+-- A desk that passes the record test, with an operation that runs, writes a request to each server that the server's reader takes, and finds again.
+use Prim.Native.Nat.{ℕ, _<_}
+use native.Mathlib.Omega.{arith}
+use mathlib.Core.Path.{_≡_, refl, sym, ap, _∙_}
+use mathlib.Core.Bool.{Bool, true, false, cond}
+use mathlib.Core.List.{List}
+use borrow.Author.Tests.{lt-ltb, ltb-true, ne-eqb, eqb-true}
+use lib.Dec.{eqb, ltb}
+use Rattle.config.specs.declared.answer.Refusal.{Refusal}
+use Rattle.config.specs.declared.answer.Verdict.{Verdict}
+use Rattle.config.specs.declared.answer.Number.{Number}
+use Rattle.config.proofs.Clusters.{valid-bounds, value-not-refused}
+use Rattle.message.specs.Cursors.{within}
+use Rattle.message.specs.Faults.{kindFits}
+use Rattle.replica.specs.Envelopes.{lawful, Written, place, between, receiveOf, trimmedReplica, Typed as TypedEnvelope}
+use Rattle.replica.proofs.Envelopes.{told-lawful, received-back}
+use Rattle.replica.proofs.Placed.{placed-message}
+use Rattle.desk.specs.declared.record.Desk.{Desk}
+use Rattle.desk.specs.Operations.{running}
+use Rattle.desk.specs.Desks.{fits, Typed}
+use Rattle.desk.specs.Asks.{requestEnvelope, requestMessage, unwritten, askOf}
+use Rattle.desk.proofs.Desks.{fits-told, fits-valid, number-told, running-round}
+
+pub request-lawful : (x : Desk) (i : ℕ) → fits x ≡ true → x .operation .mode ≡ running → i < x .config .n
+    → lawful (x .config) (requestEnvelope x i) ≡ true
+unfolding within kindFits
+request-lawful x i e m l =
+    told-lawful (x .config) (requestEnvelope x i) (record {
+      kind-good = refl;
+      fields-good =
+          simp (
+            ne-eqb (x .number) 0 (λ z. omega (arith, number-told (x .number) (fits-told x e .number-in))),
+            ne-eqb (x .round) 0 (λ z. omega (arith, running-round x e m)),
+          );
+      server-good = lt-ltb i (x .config .n) l;
+    })
+
+pub request-typed : (x : Desk) (i : ℕ) → Typed x → fits x ≡ true → i < x .config .n → TypedEnvelope (requestEnvelope x i)
+request-typed x i t e l = record {
+  kind-fits = omega arith;
+  server-fits = omega (arith, valid-bounds (x .config) (fits-valid x e) .most);
+  desk-fits = number-told (x .number) (fits-told x e .number-in) .1;
+  round-fits = t .round-fits;
+  note-fits = t .operation-typed .note-fits;
+}
+
+-- The reader of the request finds the desk's number, round and note, and the replica that the desk holds.
+pub request-back : (x : Desk) (i : ℕ) → Typed x → fits x ≡ true → x .operation .mode ≡ running → i < x .config .n
+    → receiveOf (x .config) (requestMessage x i)
+    ≡ record { verdict = Verdict.Accepted; envelope = requestEnvelope x i; replica = trimmedReplica (x .replica) }
+request-back x i t e m l =
+    received-back (x .config) (requestEnvelope x i) (x .replica) (request-typed x i t e l) (t .replica-typed) (request-lawful x i e m l)
+    (fits-told x e .replica-fits)
+
+-- what an accepted ask says: the record passes the test, an operation runs, the server is one of the cluster, and the request stands in the buffer
+pub record Asked (x : Desk) (i : ℕ) (out : List ℕ) (at : ℕ) (w : Written) : Type 0 where
+  pub fitting : fits x ≡ true
+  pub runs : x .operation .mode ≡ running
+  pub one-of : i < x .config .n
+  pub placed : w ≡ place (requestMessage x i) out at
+
+pub ask-told : (x : Desk) (i : ℕ) (out : List ℕ) (at next : ℕ) → askOf x i out at .answer ≡ Number.Value next → Asked x i out at (askOf x i out at)
+unfolding askOf
+ask-told x i out at next = by-tests (fits x) refl (eqb (x .operation .mode) running) refl (ltb i (x .config .n)) refl
+  where
+    asked : Bool → Bool → Bool → Written
+    asked f m l =
+        cond f (cond m (cond l (place (requestMessage x i) out at) (unwritten Refusal.BadHouse out)) (unwritten Refusal.Idle out)) (unwritten Refusal.BadHouse out)
+
+    by-tests : (f : Bool) → fits x ≡ f → (m : Bool) → eqb (x .operation .mode) running ≡ m → (l : Bool) → ltb i (x .config .n) ≡ l
+        → asked f m l .answer ≡ Number.Value next → Asked x i out at (asked f m l)
+    by-tests true p true q true r d =
+        record { fitting = p; runs = eqb-true (x .operation .mode) running q; one-of = ltb-true i (x .config .n) r; placed = refl }
+    by-tests true p true q false r d = absurd (value-not-refused next Refusal.BadHouse (sym d))
+    by-tests true p false q l r d = absurd (value-not-refused next Refusal.Idle (sym d))
+    by-tests false p m q l r d = absurd (value-not-refused next Refusal.BadHouse (sym d))
+
+-- The bytes that an accepted ask left in the buffer, from the place given up to the place handed back, read back to the request that was meant.
+pub ask-asks : (x : Desk) (i : ℕ) (out : List ℕ) (at next : ℕ) → Typed x → askOf x i out at .answer ≡ Number.Value next
+    → receiveOf (x .config) (between (askOf x i out at .out) at next)
+    ≡ record { verdict = Verdict.Accepted; envelope = requestEnvelope x i; replica = trimmedReplica (x .replica) }
+ask-asks x i out at next t e =
+    let a = ask-told x i out at next e in
+    ap (λ (w : Written). receiveOf (x .config) (between (w .out) at next)) (a .placed)
+    ∙ ap (receiveOf (x .config)) (placed-message (requestMessage x i) out at next (sym (ap (λ (w : Written). w .answer) (a .placed)) ∙ e))
+    ∙ request-back x i t (a .fitting) (a .runs) (a .one-of)

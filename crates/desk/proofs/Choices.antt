@@ -1,0 +1,74 @@
+-- The register that phase 1 chooses: one that a desk may hold, with a tag that is not below the one that was held.
+use Prim.Native.Nat.{suc, _+_, _≤_, _<_}
+use native.Mathlib.Omega.{arith}
+use mathlib.Core.Path.{_≡_, refl}
+use mathlib.Core.Bool.{Bool, true, false, cond, true≢false}
+use borrow.Author.Tests.{eq-eqb, ne-eqb, eqb-true, lt-ltb, le-ltb, ltb-true, ltb-false, le-leb, not-false}
+use lib.Dec.{eqb}
+use Rattle.quorums.proofs.Tests.{chosen-second}
+use Rattle.config.specs.Cluster.{stampBytes, mostStamp}
+use Rattle.format.specs.Table.{registerMark}
+use Rattle.message.specs.Faults.{registerFits}
+use Rattle.replica.specs.declared.register.Register.{Register}
+use Rattle.replica.specs.Registers.{below, fits as fitsRegister, Typed as TypedRegister}
+use Rattle.desk.specs.declared.record.Desk.{Desk}
+use Rattle.desk.specs.Operations.{writing}
+use Rattle.desk.specs.Desks.{fits, Typed}
+use Rattle.desk.specs.Hears.{noStamp, chosenOf}
+use Rattle.desk.proofs.Operations.{operation-told}
+use Rattle.desk.proofs.Desks.{fits-told, number-told}
+
+-- that of a write, where r is held
+abbrev written : Desk → Register → Register
+written x r = record { stamp = suc (r .stamp); desk = x .number; value = x .operation .value }
+
+chosen-either : (P : Register → Type 0) (x : Desk) (r : Register) → (x .operation .kind ≡ writing → P (written x r)) → P r → P (chosenOf x r)
+unfolding chosenOf
+chosen-either P x r w h = by-test (eqb (x .operation .kind) writing) refl
+  where
+    by-test : (b : Bool) → eqb (x .operation .kind) writing ≡ b → P (cond b (written x r) r)
+    by-test true e = w (eqb-true (x .operation .kind) writing e)
+    by-test false e = h
+
+written-fits : (x : Desk) (r : Register) → fits x ≡ true → fitsRegister (written x r) ≡ true
+unfolding fitsRegister registerFits registerMark
+written-fits x r e =
+    let t = fits-told x e in
+    let n = number-told (x .number) (t .number-in) in
+    simp (
+      ne-eqb (suc (r .stamp) + x .number + x .operation .value .length) 0 (λ z. omega arith),
+      ne-eqb (suc (r .stamp)) 0 (λ z. omega arith),
+      ne-eqb (x .number) 0 (λ z. omega arith),
+      le-leb (x .operation .value .length) 64 (operation-told (x .config) (x .round) (x .operation) (t .operation-fits) .value-short),
+    )
+
+pub chosen-fits : (x : Desk) (r : Register) → fits x ≡ true → fitsRegister r ≡ true → fitsRegister (chosenOf x r) ≡ true
+chosen-fits x r e h = chosen-either (λ g. fitsRegister g ≡ true) x r (λ w. written-fits x r e) h
+
+-- a write has a stamp left
+stamp-left : (x : Desk) (r : Register) → noStamp x r ≡ false → x .operation .kind ≡ writing → r .stamp < 4294967295
+unfolding noStamp mostStamp stampBytes
+stamp-left x r e w = ltb-true (r .stamp) 4294967295 (not-false _ (rw (eq-eqb (x .operation .kind) writing w) at e))
+
+pub chosen-typed : (x : Desk) (r : Register) → Typed x → fits x ≡ true → noStamp x r ≡ false → TypedRegister r → TypedRegister (chosenOf x r)
+chosen-typed x r t e s h =
+    chosen-either TypedRegister x r
+    (λ w. record {
+      stamp-fits = stamp-left x r s w;
+      desk-fits = number-told (x .number) (fits-told x e .number-in) .1;
+      value-typed = t .operation-typed .value-typed;
+    })
+    h
+
+-- its tag is not below what that of r isn't below
+pub chosen-above : (x : Desk) (r a : Register) → below r a ≡ false → below (chosenOf x r) a ≡ false
+unfolding below
+chosen-above x r a e = chosen-either (λ g. below g a ≡ false) x r (λ w. higher (ltb-false (r .stamp) (a .stamp) (chosen-second _ _ _ _ true≢false e))) e
+  where
+    higher : a .stamp ≤ r .stamp → below (written x r) a ≡ false
+    higher h = simp (le-ltb (suc (r .stamp)) (a .stamp) (omega arith), ne-eqb (suc (r .stamp)) (a .stamp) (λ z. omega arith))
+
+-- and that of a write is above what was held
+pub chosen-raises : (x : Desk) (r : Register) → x .operation .kind ≡ writing → below r (chosenOf x r) ≡ true
+unfolding chosenOf below
+chosen-raises x r w = simp (eq-eqb (x .operation .kind) writing w, lt-ltb (r .stamp) (suc (r .stamp)) (omega arith))

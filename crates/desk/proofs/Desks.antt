@@ -1,0 +1,91 @@
+-- Desks: what the record test says, and that a desk passes it when it is opened.
+use Prim.Native.Nat.{ℕ, _≤_, _<_, _^_}
+use native.Mathlib.Omega.{arith}
+use mathlib.Core.Path.{_≡_, refl, sym}
+use mathlib.Core.Bool.{Bool, true, false, cond}
+use borrow.Author.Tests.{leb-true}
+use lib.Dec.{leb}
+use Rattle.quorums.proofs.Tests.{both}
+use Rattle.config.specs.Cluster.{configOf, validOf}
+use Rattle.config.specs.declared.answer.Refusal.{Refusal}
+use Rattle.config.specs.declared.answer.Verdict.{Verdict}
+use Rattle.ledger.proofs.Checks.{accepted-not-refused}
+use Rattle.replica.specs.Replicas.{fits as fitsReplica}
+use Rattle.replica.proofs.Replicas.{fits-told as replica-told, fresh-fits, fresh-typed}
+use Rattle.config.specs.declared.cluster.Config.{Config}
+use Rattle.desk.specs.declared.record.Desk.{Desk}
+use Rattle.desk.specs.declared.record.DeskAnswer.{DeskAnswer}
+use Rattle.desk.specs.Operations.{running, fits as fitsOperation}
+use Rattle.desk.specs.Desks.{numberLawful, opens, fits, accepted, refused, freshDesk, blankDesk, openOf, Typed}
+use Rattle.desk.proofs.Operations.{operation-told, running-later, none-fits, none-typed}
+
+-- ---- a desk that passes the record test
+
+pub record Fits (x : Desk) : Type 0 where
+  pub number-in : numberLawful (x .number) ≡ true
+  pub replica-fits : fitsReplica (x .config) (x .replica) ≡ true
+  pub operation-fits : fitsOperation (x .config) (x .round) (x .operation) ≡ true
+
+pub fits-told : (x : Desk) → fits x ≡ true → Fits x
+unfolding fits
+fits-told x e =
+    let n = both (numberLawful (x .number)) _ e in
+    let r = both (fitsReplica (x .config) (x .replica)) _ (n .1) in
+    record { number-in = n .0; replica-fits = r .0; operation-fits = r .1 }
+
+pub told-fits : (x : Desk) → Fits x → fits x ≡ true
+unfolding fits
+told-fits x t = simp (t .number-in, t .replica-fits, t .operation-fits)
+
+-- its cluster is one, and its number is a desk's
+
+pub fits-valid : (x : Desk) → fits x ≡ true → validOf (x .config) ≡ true
+fits-valid x e = replica-told (x .config) (x .replica) (fits-told x e .replica-fits) .valid
+
+pub number-told : (d : ℕ) → numberLawful d ≡ true → (1 ≤ d) × (d ≤ 65535)
+unfolding numberLawful
+number-told d e = let p = both (leb 1 d) (leb d 65535) e in (leb-true 1 d (p .0), leb-true d 65535 (p .1))
+
+-- an operation runs in no round before the first
+pub running-round : (x : Desk) → fits x ≡ true → x .operation .mode ≡ running → 1 ≤ x .round
+running-round x e m =
+    running-later (x .operation .mode) (x .round) (operation-told (x .config) (x .round) (x .operation) (fits-told x e .operation-fits) .mode-in) m
+
+-- ---- a fresh desk
+
+-- what `open` answers
+abbrev opened : ℕ → ℕ → ℕ → Bool → DeskAnswer
+opened n f d b = cond b (accepted (freshDesk (configOf n f) d)) (refused Refusal.BadHouse blankDesk)
+
+opens-told : (c : Config) (d : ℕ) → opens c d ≡ true → (numberLawful d ≡ true) × (validOf c ≡ true)
+unfolding opens
+opens-told c d e = both (numberLawful d) (validOf c) e
+
+pub open-fits : (n f d : ℕ) → openOf n f d .verdict ≡ Verdict.Accepted → fits (openOf n f d .desk) ≡ true
+unfolding openOf
+open-fits n f d e = by-test (opens (configOf n f) d) refl e
+  where
+    by-test : (b : Bool) → opens (configOf n f) d ≡ b → opened n f d b .verdict ≡ Verdict.Accepted → fits (opened n f d b .desk) ≡ true
+    by-test true o t =
+        let h = opens-told (configOf n f) d o in
+        told-fits (freshDesk (configOf n f) d)
+        (record { number-in = h .0; replica-fits = fresh-fits (configOf n f) (h .1); operation-fits = none-fits (configOf n f) 0 (h .1) })
+    by-test false o t = accepted-not-refused _ (sym t)
+
+pub open-typed : (n f d : ℕ) → n < 2 ^ 64 → f < 2 ^ 64 → d < 2 ^ 64 → Typed (openOf n f d .desk)
+unfolding openOf
+open-typed n f d p q r = by-test (opens (configOf n f) d)
+  where
+    fresh : (m k i : ℕ) → m < 2 ^ 64 → k < 2 ^ 64 → i < 2 ^ 64 → Typed (freshDesk (configOf m k) i)
+    fresh m k i a b c = record {
+      n-fits = a;
+      f-fits = b;
+      number-fits = c;
+      replica-typed = fresh-typed;
+      round-fits = omega arith;
+      operation-typed = none-typed;
+    }
+
+    by-test : (b : Bool) → Typed (opened n f d b .desk)
+    by-test true = fresh n f d p q r
+    by-test false = fresh 0 0 0 (omega arith) (omega arith) (omega arith)

@@ -1,0 +1,41 @@
+-- `fits` meets its contract: the number, the replica, and then the operation.
+use mathlib.Core.Path.{_≡_, sym, _∙_}
+use mathlib.Core.Bool.{true}
+use borrow.Author.Needs.{needs}
+use borrow.Author.Tests.{not-true, not-false}
+use Rattle.desk.specs.Desks.{numberLawful, fits}
+use Rattle.desk.proofs.record.Desk.fits.Statement.{statement}
+use Rattle.desk.proofs.record.Desk.fits.Tie as tie
+
+-- the number is a desk's
+number-in : (c : tie.Else1) → numberLawful (c .before .before .args .self .number) ≡ true
+number-in c = sym (c .before .number-lawful .ensures) ∙ not-false _ (c .if1 .left)
+
+number-lawful-requires : tie.Need-number-lawful-requires
+number-lawful-requires c κs = search needs
+
+returns : tie.Need-returns
+unfolding fits
+returns c = simp (sym (c .before .number-lawful .ensures) ∙ not-true _ (c .if1 .taken))
+
+fits-requires : tie.Need-fits-requires
+fits-requires c κs = search needs
+
+returns-2 : tie.Need-returns-2
+unfolding fits
+returns-2 c = simp (number-in (c .before .before .before .before), sym (c .before .fits2 .ensures) ∙ not-true _ (c .if2 .taken))
+
+fits-requires-2 : tie.Need-fits-requires-2
+fits-requires-2 c κs = search needs
+
+returns-3 : tie.Need-returns-3
+unfolding fits
+returns-3 c =
+    let replica = c .before .before in
+    let replica-fits = sym (replica .before .fits2 .ensures) ∙ not-false _ (replica .if2 .left) in
+    simp (number-in (replica .before .before .before .before), replica-fits) (c .fits3 .ensures)
+
+pub fits-spec : {M : Type 1} → statement M
+fits-spec =
+    tie.close
+    (tie.spec number-lawful-requires returns fits-requires returns-2 fits-requires-2 returns-3)

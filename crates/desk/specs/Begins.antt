@@ -1,0 +1,37 @@
+-- Begin and drop (paper 01, "Desk").
+use Prim.Native.Nat.{ℕ, suc}
+use mathlib.Core.Bool.{cond}
+use mathlib.Core.List.{List}
+use lib.Dec.{eqb, leb, ltb}
+use lib.ListN.{length}
+use Rattle.config.specs.declared.answer.Refusal.{Refusal}
+use Rattle.replica.specs.declared.value.Value.{Value}
+use Rattle.replica.specs.Values.{valueOf, mostValue}
+use Rattle.desk.specs.declared.record.Desk.{Desk}
+use Rattle.desk.specs.declared.record.DeskAnswer.{DeskAnswer}
+use Rattle.desk.specs.Operations.{running, noOperation, begunOperation}
+use Rattle.desk.specs.Desks.{mostRound, fits, accepted, refused, turned}
+
+-- round + 1, phase 1, nobody answered, restarts 0
+abbrev pub begun : Desk → ℕ → Value → ℕ → Desk
+begun x kind value note = turned x (suc (x .round)) (begunOperation kind value note)
+
+-- 8, then 12
+unfoldable pub startOf : Desk → ℕ → Value → ℕ → DeskAnswer
+startOf x kind value note =
+    cond (eqb (x .operation .mode) running) (refused Refusal.Busy x)
+    (cond (ltb (x .round) mostRound) (accepted (begun x kind value note)) (refused Refusal.Spent x))
+
+-- Begin of a kind, with a note, 0 for none, and the value to be written, which for a read is empty: 14, 8, 12.
+unfoldable pub beginOf : Desk → ℕ → List ℕ → ℕ → DeskAnswer
+beginOf x kind v note =
+    cond (fits x) (cond (leb (length v) mostValue) (startOf x kind (valueOf v) note) (refused Refusal.Long x)) (refused Refusal.BadHouse x)
+
+-- no operation any more
+abbrev pub dropped : Desk → Desk
+dropped x = turned x (x .round) noOperation
+
+-- Drop: 9 if no operation runs, else it is gone.
+unfoldable pub dropOf : Desk → DeskAnswer
+dropOf x =
+    cond (fits x) (cond (eqb (x .operation .mode) running) (accepted (dropped x)) (refused Refusal.Idle x)) (refused Refusal.BadHouse x)

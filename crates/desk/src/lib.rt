@@ -1,0 +1,13 @@
+// A desk, the client of the store (paper 01, "Desk"). Its record goes in by value and comes back by value; every call tests it first.
+mod ask;
+mod begin;
+mod operation;
+mod record;
+mod result;
+
+pub use operation::Operation;
+pub use record::Desk;
+pub use record::DeskAnswer;
+pub use record::Heard;
+pub use record::Hearing;
+pub use result::Told;

@@ -1,0 +1,129 @@
+// The operation of a desk. Kind, phase and mode are numbers: a record may hold any, and the record test says which ones mean something.
+use config::Config;
+use ledger::within;
+use replica::Register;
+use replica::Value;
+ghost use mathlib.Core.Path.{_≡_};
+ghost use Rattle.desk.specs.Operations.{noOperation, begunOperation, modeLawful, kindLawful, phaseLawful, fits as fitsOf};
+
+// No operation, one that runs, one that has ended and whose result is kept.
+pub const NONE: u32 = 0;
+
+pub const RUNNING: u32 = 1;
+
+pub const ENDED: u32 = 2;
+
+// The kinds of operation.
+pub const READ: u16 = 1;
+
+pub const WRITE: u16 = 2;
+
+// `answered` is a map of the servers that answered in the current round, `value` what is to be written, and `chosen` the register that phase 1 chose.
+#[repr(C)]
+pub struct Operation {
+    pub mode: u32,
+    pub note: u32,
+    pub restarts: u32,
+    pub kind: u16,
+    pub phase: u16,
+    pub answered: u16,
+    pub value: Value,
+    pub chosen: Register,
+}
+
+impl Operation {
+    // No operation: every field is 0.
+    pub(crate) fn none() -> Operation
+        ensures { λ r. ⌜ r ≡ noOperation ⌝ }
+    {
+        Operation {
+            mode: NONE,
+            note: 0,
+            restarts: 0,
+            kind: 0,
+            phase: 0,
+            answered: 0,
+            value: Value::empty(),
+            chosen: Register::start(),
+        }
+    }
+
+    // One that begins.
+    pub(crate) fn begun(kind: u16, value: Value, note: u32) -> Operation
+        ensures { λ r. ⌜ r ≡ begunOperation kind value note ⌝ }
+    {
+        Operation {
+            mode: RUNNING,
+            note,
+            restarts: 0,
+            kind,
+            phase: 1,
+            answered: 0,
+            value,
+            chosen: Register::start(),
+        }
+    }
+
+    // The part of the record test that is about the operation of a desk in a round.
+    pub(crate) fn fits(self, config: Config, round: u32) -> bool
+        ensures { λ r. ⌜ r ≡ fitsOf config round self ⌝ }
+    {
+        if !mode_lawful(self.mode, round) {
+            return false;
+        }
+        if !kind_lawful(self.mode, self.kind) {
+            return false;
+        }
+        if !phase_lawful(self.mode, self.phase) {
+            return false;
+        }
+        if !within(config, self.answered) {
+            return false;
+        }
+        if round < self.restarts {
+            return false;
+        }
+        let value = self.value;
+        if 64 < value.length {
+            return false;
+        }
+        let chosen = self.chosen;
+        chosen.fits()
+    }
+}
+
+// Whether a mode is one, and none at round 0.
+fn mode_lawful(mode: u32, round: u32) -> bool
+    ensures { λ r. ⌜ r ≡ modeLawful mode round ⌝ }
+{
+    if round == 0 {
+        return mode == NONE;
+    }
+    mode <= ENDED
+}
+
+// Whether a kind is one, where there is an operation.
+fn kind_lawful(mode: u32, kind: u16) -> bool
+    ensures { λ r. ⌜ r ≡ kindLawful mode kind ⌝ }
+{
+    if mode == NONE {
+        return true;
+    }
+    if kind < READ {
+        return false;
+    }
+    kind <= WRITE
+}
+
+// Whether a phase is 1 or 2, where an operation runs.
+fn phase_lawful(mode: u32, phase: u16) -> bool
+    ensures { λ r. ⌜ r ≡ phaseLawful mode phase ⌝ }
+{
+    if mode != RUNNING {
+        return true;
+    }
+    if phase < 1 {
+        return false;
+    }
+    phase <= 2
+}

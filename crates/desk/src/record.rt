@@ -1,0 +1,130 @@
+// The record of a desk, and how one is opened.
+use super::operation::Operation;
+use config::Config;
+use config::Refusal;
+use config::Verdict;
+use replica::Replica;
+ghost use mathlib.Core.Path.{_≡_};
+ghost use Rattle.desk.specs.Desks.{numberLawful, fits as fitsOf, freshDesk, opens as opensOf, openOf, accepted, refused as refusedOf, turned as turnedOf};
+
+#[repr(C)]
+pub struct Desk {
+    pub config: Config,
+    pub number: u64,
+    pub replica: Replica,
+    pub round: u32,
+    pub operation: Operation,
+}
+
+// What a call hands back: the record changed, or as it was where the verdict is a refusal.
+pub struct DeskAnswer {
+    pub verdict: Verdict,
+    pub desk: Desk,
+}
+
+// What comes of a reply: it is taken, or comes too late, or is refused.
+pub enum Hearing {
+    Accepted,
+    Late,
+    Refused(Refusal),
+}
+
+// What hearing a reply hands back: the record changed, or as it was where the reply was late or refused.
+pub struct Heard {
+    pub hearing: Hearing,
+    pub desk: Desk,
+}
+
+impl Desk {
+    // A fresh record for desk `number` of a cluster of n servers, of which f may crash: 1, and a record with every field 0, where they are out of bounds.
+    pub fn open(n: u64, f: u64, number: u64) -> DeskAnswer
+        ensures { λ r. ⌜ r ≡ openOf n f number ⌝ }
+    {
+        let config = Config::of(n, f);
+        if !opens(config, number) {
+            let blank = Desk::fresh(Config::of(0, 0), 0);
+            return blank.refused(Refusal::BadHouse);
+        }
+        DeskAnswer {
+            verdict: Verdict::Accepted,
+            desk: Desk::fresh(config, number),
+        }
+    }
+
+    // The record test: whether every field is within the paper's bounds and the ledger is not light.
+    pub fn fits(self) -> bool
+        ensures { λ r. ⌜ r ≡ fitsOf self ⌝ }
+    {
+        if !number_lawful(self.number) {
+            return false;
+        }
+        let config = self.config;
+        let replica = self.replica;
+        if !replica.fits(config) {
+            return false;
+        }
+        let operation = self.operation;
+        operation.fits(config, self.round)
+    }
+
+    // A record that holds nothing and does nothing.
+    fn fresh(config: Config, number: u64) -> Desk
+        ensures { λ r. ⌜ r ≡ freshDesk config number ⌝ }
+    {
+        Desk {
+            config,
+            number,
+            replica: Replica::fresh(),
+            round: 0,
+            operation: Operation::none(),
+        }
+    }
+
+    // A refusal, with the record as it was.
+    pub(crate) fn refused(self, refusal: Refusal) -> DeskAnswer
+        ensures { λ r. ⌜ r ≡ refusedOf refusal self ⌝ }
+    {
+        DeskAnswer {
+            verdict: Verdict::Refused(refusal),
+            desk: self,
+        }
+    }
+
+    // The record in another round and with another operation.
+    pub(crate) fn turned(self, round: u32, operation: Operation) -> DeskAnswer
+        ensures { λ r. ⌜ r ≡ accepted (turnedOf self round operation) ⌝ }
+    {
+        let config = self.config;
+        let replica = self.replica;
+        DeskAnswer {
+            verdict: Verdict::Accepted,
+            desk: Desk {
+                config,
+                number: self.number,
+                replica,
+                round,
+                operation,
+            },
+        }
+    }
+}
+
+// Whether a number is a desk's and the cluster within bounds.
+fn opens(config: Config, number: u64) -> bool
+    ensures { λ r. ⌜ r ≡ opensOf config number ⌝ }
+{
+    if !number_lawful(number) {
+        return false;
+    }
+    config.valid()
+}
+
+// Whether a number is a desk's: 1 to 65,535.
+fn number_lawful(number: u64) -> bool
+    ensures { λ r. ⌜ r ≡ numberLawful number ⌝ }
+{
+    if number < 1 {
+        return false;
+    }
+    number <= 65535
+}

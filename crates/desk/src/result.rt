@@ -1,0 +1,50 @@
+// A desk tells the result of an operation that has ended (paper 01, "Desk": Result).
+use super::operation::ENDED;
+use super::record::Desk;
+use config::Refusal;
+use config::Verdict;
+use replica::Register;
+ghost use mathlib.Core.Path.{_≡_};
+ghost use Rattle.desk.specs.Results.{refused as refusedOf, resultOf};
+
+// The kind of the operation (1 read, 2 write), its tag and value, and its restarts; every field is 0 beside a refusal.
+pub struct Told {
+    pub verdict: Verdict,
+    pub kind: u16,
+    pub register: Register,
+    pub restarts: u32,
+}
+
+impl Desk {
+    // The result of the operation that ended since the last begin, as often as it is asked for: 1 for the record, 9 if none has ended.
+    pub fn result(self) -> Told
+        ensures { λ r. ⌜ r ≡ resultOf self ⌝ }
+    {
+        if !self.fits() {
+            return untold(Refusal::BadHouse);
+        }
+        let operation = self.operation;
+        if operation.mode != ENDED {
+            return untold(Refusal::Idle);
+        }
+        let chosen = operation.chosen;
+        Told {
+            verdict: Verdict::Accepted,
+            kind: operation.kind,
+            register: chosen.trimmed(),
+            restarts: operation.restarts,
+        }
+    }
+}
+
+// A refusal.
+fn untold(refusal: Refusal) -> Told
+    ensures { λ r. ⌜ r ≡ refusedOf refusal ⌝ }
+{
+    Told {
+        verdict: Verdict::Refused(refusal),
+        kind: 0,
+        register: Register::start(),
+        restarts: 0,
+    }
+}
