@@ -1,4 +1,8 @@
--- Cases 7 to 11 of paper 01, its share in hex, and the refusals of the ledger.
-pub mod Quorums
+-- Paper 01's cases 1 to 11 as one theorem and its share in hex (Cases), and bad inputs with their numbers: of the cluster and the ledger (Refusals),
+-- and of a server's calls (Calls). Gifts, Quorums and Messages have what the cases use.
 pub mod Refusals
+pub mod Gifts
+pub mod Quorums
 pub mod Messages
+pub mod Cases
+pub mod Calls

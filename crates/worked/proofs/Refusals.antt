@@ -25,11 +25,12 @@ use Rattle.ledger.specs.Joins.{agree, later, joins, joined, joinAnswer}
 use Rattle.ledger.specs.Changes.{lawful, roomFor, added, addAnswer}
 
 -- the largest number of 64 bits
-abbrev most : ℕ
+abbrev pub most : ℕ
 most = 2 ^ 64 - 1
 
-abbrev house : Config
-house = configOf 5 1
+-- five servers, of which one may crash
+abbrev pub five : Config
+five = configOf 5 1
 
 -- ---- the cluster: n = 0, n = 17, 2f = n, and both numbers at their ends
 
@@ -59,12 +60,12 @@ bad-clusters = record {
 -- ---- the floor of five servers of which one may crash: 625 is not above it, 626 is
 
 pub record Floor : Type 0 where
-  pub at : aboveAnswer house (pos 625) ≡ Decision.No
-  pub over : aboveAnswer house (pos 626) ≡ Decision.Yes
-  pub least : leastAnswer house ≡ Number.Value 626
-  pub negative : aboveAnswer house (negsuc 0) ≡ Decision.No
-  pub last : aboveAnswer house (pos (2 ^ 63 - 1)) ≡ Decision.Yes
-  pub first : aboveAnswer house (negsuc (2 ^ 63 - 1)) ≡ Decision.No
+  pub at : aboveAnswer five (pos 625) ≡ Decision.No
+  pub over : aboveAnswer five (pos 626) ≡ Decision.Yes
+  pub least : leastAnswer five ≡ Number.Value 626
+  pub negative : aboveAnswer five (negsuc 0) ≡ Decision.No
+  pub last : aboveAnswer five (pos (2 ^ 63 - 1)) ≡ Decision.Yes
+  pub first : aboveAnswer five (negsuc (2 ^ 63 - 1)) ≡ Decision.No
 
 pub floor : Floor
 unfolding aboveAnswer leastAnswer validOf aboveOf above leastOf totalOf startOf sum
@@ -73,16 +74,16 @@ floor = record { at = refl; over = refl; least = refl; negative = refl; last = r
 -- ---- servers and maps that there aren't
 
 pub record BadServers : Type 0 where
-  pub server : weightAnswer house freshLedger 5 ≡ Signed.Refused Refusal.BadHouse
-  pub last-server : givenAnswer house freshLedger most ≡ Number.Refused Refusal.BadHouse
-  pub received : receivedAnswer house freshLedger 5 ≡ Number.Refused Refusal.BadHouse
-  pub bit : marginAnswer house freshLedger (2 ^ 5) ≡ Signed.Refused Refusal.BadHouse
-  pub all-bits : quorumAnswer house freshLedger (2 ^ 16 - 1) ≡ Decision.Refused Refusal.BadHouse
-  pub named-bit : namedAnswer house (2 ^ 5) ≡ Number.Refused Refusal.BadHouse
-  pub named-all : namedAnswer house (2 ^ 5 - 1) ≡ Number.Value 5
-  pub nobody : marginAnswer house freshLedger 0 ≡ Signed.Value (negsuc 4999)
+  pub server : weightAnswer five freshLedger 5 ≡ Signed.Refused Refusal.BadHouse
+  pub last-server : givenAnswer five freshLedger most ≡ Number.Refused Refusal.BadHouse
+  pub received : receivedAnswer five freshLedger 5 ≡ Number.Refused Refusal.BadHouse
+  pub bit : marginAnswer five freshLedger (2 ^ 5) ≡ Signed.Refused Refusal.BadHouse
+  pub all-bits : quorumAnswer five freshLedger (2 ^ 16 - 1) ≡ Decision.Refused Refusal.BadHouse
+  pub named-bit : namedAnswer five (2 ^ 5) ≡ Number.Refused Refusal.BadHouse
+  pub named-all : namedAnswer five (2 ^ 5 - 1) ≡ Number.Value 5
+  pub nobody : marginAnswer five freshLedger 0 ≡ Signed.Value (negsuc 4999)
   pub two-of-four : marginAnswer (configOf 4 1) freshLedger 3 ≡ Signed.Value (pos 0)
-  pub two-of-five : marginAnswer house freshLedger 3 ≡ Signed.Value (negsuc 999)
+  pub two-of-five : marginAnswer five freshLedger 3 ≡ Signed.Value (negsuc 999)
 
 pub bad-servers : BadServers
 unfolding weightAnswer givenAnswer receivedAnswer marginAnswer quorumAnswer namedAnswer serverOf validOf mapOf marginOf margin weightIn weight total difference named size sumIn sum sumℤ startOf givenOf receivedOf
@@ -106,14 +107,14 @@ abbrev gave : ℕ → ℕ → Ledger
 gave m x = record { counts = set (replicate 16 0) 0 m; cells = set (replicate 256 0) 1 x }
 
 pub record BadTransfers : Type 0 where
-  pub giver : addAnswer house freshLedger 5 0 1 ≡ refused Refusal.BadHouse freshLedger
-  pub self-taker : addAnswer house freshLedger 0 0 1 ≡ refused Refusal.BadTransfer freshLedger
-  pub taker : addAnswer house freshLedger 0 5 1 ≡ refused Refusal.BadTransfer freshLedger
-  pub nothing : addAnswer house freshLedger 0 1 0 ≡ refused Refusal.BadTransfer freshLedger
-  pub count : addAnswer house (gave 65535 70000) 0 1 1 ≡ refused Refusal.Spent (gave 65535 70000)
-  pub cell : addAnswer house (gave 1 4294967295) 0 1 1 ≡ refused Refusal.Spent (gave 1 4294967295)
-  pub amount : addAnswer house freshLedger 0 1 most ≡ refused Refusal.Spent freshLedger
-  pub last : addAnswer house (gave 65534 4294967294) 0 1 1 ≡ accepted (gave 65535 4294967295)
+  pub giver : addAnswer five freshLedger 5 0 1 ≡ refused Refusal.BadHouse freshLedger
+  pub self-taker : addAnswer five freshLedger 0 0 1 ≡ refused Refusal.BadTransfer freshLedger
+  pub taker : addAnswer five freshLedger 0 5 1 ≡ refused Refusal.BadTransfer freshLedger
+  pub nothing : addAnswer five freshLedger 0 1 0 ≡ refused Refusal.BadTransfer freshLedger
+  pub count : addAnswer five (gave 65535 70000) 0 1 1 ≡ refused Refusal.Spent (gave 65535 70000)
+  pub cell : addAnswer five (gave 1 4294967295) 0 1 1 ≡ refused Refusal.Spent (gave 1 4294967295)
+  pub amount : addAnswer five freshLedger 0 1 most ≡ refused Refusal.Spent freshLedger
+  pub last : addAnswer five (gave 65534 4294967294) 0 1 1 ≡ accepted (gave 65535 4294967295)
 
 pub bad-transfers : BadTransfers
 unfolding addAnswer serverOf validOf lawful roomFor added
@@ -152,14 +153,14 @@ abbrev generous : Ledger
 generous = record { counts = replicate 16 0; cells = replicate 16 4294967295 ++ replicate 240 0 }
 
 pub record Contents : Type 0 where
-  pub full-weight : weightAnswer house full 0 ≡ Signed.Value (pos 1000)
-  pub negative-weight : weightAnswer house generous 0 ≡ Signed.Value (negsuc 64424508424)
-  pub full-bounds : checkAnswer house full ≡ Verdict.Refused Refusal.OddField
-  pub light : checkAnswer house (gave 1 375) ≡ Verdict.Refused Refusal.Light
-  pub not-light : checkAnswer house (gave 1 374) ≡ Verdict.Accepted
-  pub floor-alone : floorAnswer house full ≡ Verdict.Accepted
-  pub count-alone : checkAnswer house (gave 2 1) ≡ Verdict.Refused Refusal.OddField
-  pub cell-alone : checkAnswer house (gave 0 1) ≡ Verdict.Refused Refusal.OddField
+  pub full-weight : weightAnswer five full 0 ≡ Signed.Value (pos 1000)
+  pub negative-weight : weightAnswer five generous 0 ≡ Signed.Value (negsuc 64424508424)
+  pub full-bounds : checkAnswer five full ≡ Verdict.Refused Refusal.OddField
+  pub light : checkAnswer five (gave 1 375) ≡ Verdict.Refused Refusal.Light
+  pub not-light : checkAnswer five (gave 1 374) ≡ Verdict.Accepted
+  pub floor-alone : floorAnswer five full ≡ Verdict.Accepted
+  pub count-alone : checkAnswer five (gave 2 1) ≡ Verdict.Refused Refusal.OddField
+  pub cell-alone : checkAnswer five (gave 0 1) ≡ Verdict.Refused Refusal.OddField
 
 pub contents : Contents
 unfolding weightAnswer checkAnswer floorAnswer bounded aboveFloor mayHold totalFits serverOf validOf weightOf weight difference aboveOf above totalOf startOf all sum givenOf receivedOf
