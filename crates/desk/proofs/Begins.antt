@@ -58,6 +58,28 @@ drop-cases P x refuses accepts = by-tests (fits x) (eqb (x .operation .mode) run
     by-tests true false e = refuses Refusal.Idle
     by-tests false m e = refuses Refusal.BadHouse
 
+-- ---- what a verdict tells
+
+pub begin-refused : (x : Desk) (kind : ℕ) (v : List ℕ) (note : ℕ) (k : Refusal) → beginOf x kind v note .verdict ≡ Verdict.Refused k
+    → beginOf x kind v note .desk ≡ x
+begin-refused x kind v note k =
+    begin-cases (λ (a : DeskAnswer). a .verdict ≡ Verdict.Refused k → a .desk ≡ x) x kind v note (λ n e. refl) (λ l r e. accepted-not-refused k e)
+
+pub drop-refused : (x : Desk) (k : Refusal) → dropOf x .verdict ≡ Verdict.Refused k → dropOf x .desk ≡ x
+drop-refused x k =
+    drop-cases (λ (a : DeskAnswer). a .verdict ≡ Verdict.Refused k → a .desk ≡ x) x (λ n e. refl) (λ m e. accepted-not-refused k e)
+
+pub begin-runs : (x : Desk) (kind : ℕ) (v : List ℕ) (note : ℕ) → beginOf x kind v note .verdict ≡ Verdict.Accepted
+    → (beginOf x kind v note .desk ≡ begun x kind (valueOf v) note) × (length v ≤ 64)
+begin-runs x kind v note =
+    begin-cases (λ (a : DeskAnswer). a .verdict ≡ Verdict.Accepted → (a .desk ≡ begun x kind (valueOf v) note) × (length v ≤ 64)) x kind v note
+    (λ n e. accepted-not-refused n (sym e)) (λ l r e. (refl, l))
+
+pub drop-idle : (x : Desk) → dropOf x .verdict ≡ Verdict.Accepted → (dropOf x .desk .operation ≡ noOperation) × (x .operation .mode ≡ running)
+drop-idle x =
+    drop-cases (λ (a : DeskAnswer). a .verdict ≡ Verdict.Accepted → (a .desk .operation ≡ noOperation) × (x .operation .mode ≡ running)) x
+    (λ n e. accepted-not-refused n (sym e)) (λ m e. (refl, m))
+
 -- ---- a desk stays one
 
 begun-fits : (x : Desk) (kind : ℕ) (value : Value) (note : ℕ) → within reading writing kind ≡ true → value .length ≤ 64 → fits x ≡ true
@@ -132,28 +154,6 @@ drop-typed x t =
       round-fits = t .round-fits;
       operation-typed = none-typed;
     })
-
--- ---- what a verdict tells
-
-pub begin-refused : (x : Desk) (kind : ℕ) (v : List ℕ) (note : ℕ) (k : Refusal) → beginOf x kind v note .verdict ≡ Verdict.Refused k
-    → beginOf x kind v note .desk ≡ x
-begin-refused x kind v note k =
-    begin-cases (λ (a : DeskAnswer). a .verdict ≡ Verdict.Refused k → a .desk ≡ x) x kind v note (λ n e. refl) (λ l r e. accepted-not-refused k e)
-
-pub drop-refused : (x : Desk) (k : Refusal) → dropOf x .verdict ≡ Verdict.Refused k → dropOf x .desk ≡ x
-drop-refused x k =
-    drop-cases (λ (a : DeskAnswer). a .verdict ≡ Verdict.Refused k → a .desk ≡ x) x (λ n e. refl) (λ m e. accepted-not-refused k e)
-
-pub begin-runs : (x : Desk) (kind : ℕ) (v : List ℕ) (note : ℕ) → beginOf x kind v note .verdict ≡ Verdict.Accepted
-    → (beginOf x kind v note .desk ≡ begun x kind (valueOf v) note) × (length v ≤ 64)
-begin-runs x kind v note =
-    begin-cases (λ (a : DeskAnswer). a .verdict ≡ Verdict.Accepted → (a .desk ≡ begun x kind (valueOf v) note) × (length v ≤ 64)) x kind v note
-    (λ n e. accepted-not-refused n (sym e)) (λ l r e. (refl, l))
-
-pub drop-idle : (x : Desk) → dropOf x .verdict ≡ Verdict.Accepted → (dropOf x .desk .operation ≡ noOperation) × (x .operation .mode ≡ running)
-drop-idle x =
-    drop-cases (λ (a : DeskAnswer). a .verdict ≡ Verdict.Accepted → (a .desk .operation ≡ noOperation) × (x .operation .mode ≡ running)) x
-    (λ n e. accepted-not-refused n (sym e)) (λ m e. (refl, m))
 
 -- ---- the order of the tests
 

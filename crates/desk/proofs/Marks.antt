@@ -8,10 +8,10 @@ use borrow.Author.Tests.{eq-eqb, eqb-true, eqb-false, lt-ltb}
 use lib.Dec.{eqb}
 use Rattle.quorums.proofs.Tests.{le-or-lt}
 use Rattle.format.specs.Bytes.{bit}
-use Rattle.format.proofs.Marks.{bit-first, bit-next}
+use Rattle.format.proofs.Marks.{bit-first}
 use Rattle.config.specs.declared.cluster.Config.{Config}
 use Rattle.ledger.specs.Maps.{named, mapOf}
-use Rattle.ledger.proofs.Maps.{map-valid}
+use Rattle.ledger.proofs.Maps.{map-valid, named-next}
 use Rattle.desk.specs.Hears.{marked}
 
 -- ---- bits, from the lowest on
@@ -19,10 +19,6 @@ use Rattle.desk.specs.Hears.{marked}
 named-first : (m : ℕ) → named m 0 ≡ eqb (m % 2) 1
 unfolding named bit
 named-first m = ap (λ x. eqb x 1) (bit-first m)
-
-named-next : (m i : ℕ) → named m (suc i) ≡ named (m / 2) i
-unfolding named bit
-named-next m i = ap (λ x. eqb x 1) (bit-next m i)
 
 -- a map that does not name server 0 is even
 even : (m : ℕ) → named m 0 ≡ false → m % 2 ≡ 0

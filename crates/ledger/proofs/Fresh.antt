@@ -18,7 +18,8 @@ use Rattle.ledger.specs.Weights.{weightOf}
 use Rattle.ledger.specs.Checks.{mayHold, totalFits, cellFits, rowFits, bounded, serverAbove, aboveFloor}
 use Rattle.ledger.proofs.Totals.{told-bounded}
 
-zeros : (n i : ℕ) → getD {A = ℕ} (replicate n 0) i 0 ≡ 0
+-- a list of zeros has 0 at every index, also past its end
+pub zeros : (n i : ℕ) → getD {A = ℕ} (replicate n 0) i 0 ≡ 0
 zeros n i =
     ⊎-elim (λ (h : n ≤ i). List·getD-eq-default {A = ℕ} (replicate n 0) 0 (omega (arith, length-replicate {A = ℕ} n 0))) (λ (h : i < n). getD-replicate n i 0 0 h) (le-or-lt n i)
 

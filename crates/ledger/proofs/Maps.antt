@@ -50,7 +50,8 @@ pub below-named : (m n i : ℕ) → m < 2 ^ n → n ≤ i → named m i ≡ fals
 unfolding named
 below-named m n i h l = rw (div-eq-of-lt (lt-of-lt-of-le h (pow-le-pow-right (omega arith) l)))
 
-named-next : (m i : ℕ) → named m (suc i) ≡ named (m / 2) i
+-- bit i + 1 is bit i of the half
+pub named-next : (m i : ℕ) → named m (suc i) ≡ named (m / 2) i
 unfolding named bit
 named-next m i = ap (λ x. eqb x 1) (bit-next m i)
 

@@ -1,20 +1,23 @@
 -- The reader gives no number but 1 to 5, so that a verdict has the number that the check found.
 use Prim.Native.Nat.{ℕ, zero, suc, _+_, _<_, _≤_}
 use native.Mathlib.Omega.{arith}
-use mathlib.Core.Path.{_≡_, refl}
+use mathlib.Core.Path.{_≡_, refl, sym}
 use mathlib.Core.Bool.{Bool, true, false, cond}
 use mathlib.Core.List.{List}
-use borrow.Author.Tests.{eq-eqb, ne-eqb}
+use borrow.Author.Tests.{eq-eqb, ne-eqb, eqb-true}
 use lib.Dec.{eqb, leb}
 use lib.ListN.{length}
+use Rattle.quorums.proofs.Tests.{chosen-first, chosen-second}
 use Rattle.config.specs.Cluster.{validOf}
 use Rattle.config.specs.Refusals.{numberOf}
 use Rattle.config.specs.declared.cluster.Config.{Config}
+use Rattle.config.specs.declared.answer.Refusal.{Refusal}
 use Rattle.config.specs.declared.answer.Verdict.{Verdict}
+use Rattle.ledger.proofs.Checks.{accepted-not-refused}
 use Rattle.message.specs.declared.state.Cursor.{Cursor}
 use Rattle.message.specs.Cursors.{start, numberAt, within, readBytes, readNumber, skip, require}
 use Rattle.message.specs.Scans.{cellsAfter, readCount, cellMapOf, rowOf, rowsAfter, readMap, readKind, headOf, registerOf, sheetOf, readNote, endOf, scanOf}
-use Rattle.message.specs.Answers.{check, refusalOf, verdictOf, checkAnswer}
+use Rattle.message.specs.Answers.{check, decode, refusalOf, verdictOf, checkAnswer}
 
 either : (b : Bool) (x y : Cursor) → x .number ≤ 5 → y .number ≤ 5 → cond b x y .number ≤ 5
 either true x y p q = p
@@ -110,3 +113,23 @@ pub check-refused : (c : Config) (msg : List ℕ) → 0 < check c msg
     → (checkAnswer c msg ≡ Verdict.Refused (refusalOf (check c msg))) × (numberOf (refusalOf (check c msg)) ≡ check c msg)
 unfolding checkAnswer verdictOf
 check-refused c msg p = (simp (ne-eqb (check c msg) 0 (λ e. omega arith)), refusal-number (check c msg) p (check-most c msg))
+
+-- and a verdict tells whether there was a number
+pub accepted-check : (k : ℕ) → verdictOf k ≡ Verdict.Accepted → k ≡ 0
+unfolding verdictOf
+accepted-check k e =
+    eqb-true k 0
+    (chosen-first (eqb k 0) Verdict.Accepted (Verdict.Refused (refusalOf k)) Verdict.Accepted (λ d. accepted-not-refused (refusalOf k) (sym d)) e .0)
+
+pub refused-check : (k : ℕ) (n : Refusal) → verdictOf k ≡ Verdict.Refused n → eqb k 0 ≡ false
+unfolding verdictOf
+refused-check k n e = chosen-second (eqb k 0) Verdict.Accepted (Verdict.Refused (refusalOf k)) (Verdict.Refused n) (accepted-not-refused n) e
+
+-- the number of what was read is that of the check
+pub decode-number : (c : Config) (msg : List ℕ) → decode c msg .number ≡ check c msg
+unfolding decode
+decode-number c msg = by-test (eqb (check c msg) 0) refl
+  where
+    by-test : (b : Bool) → eqb (check c msg) 0 ≡ b → decode c msg .number ≡ check c msg
+    by-test true e = rw e (sym (eqb-true (check c msg) 0 e))
+    by-test false e = rw e refl

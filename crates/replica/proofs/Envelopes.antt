@@ -2,14 +2,13 @@
 -- with zeros after its bytes. What a reader takes is a lawful envelope and a replica that fits, and writing them gives the bytes back; what it refuses
 -- says nothing.
 use Prim.Native.Nat.{ℕ, _+_, _≤_}
-use native.Mathlib.Omega.{arith}
 use mathlib.Core.Path.{_≡_, refl, ap, ap₂, _∙_}
 use mathlib.Core.Bool.{Bool, true, false, cond}
 use mathlib.Core.List.{List, _++_}
-use borrow.Author.Tests.{eq-eqb, eqb-true, lt-ltb}
+use borrow.Author.Tests.{eq-eqb, lt-ltb}
 use lib.Dec.{eqb, ltb}
 use lib.ListN.{length, take, drop}
-use Rattle.quorums.proofs.Tests.{both, chosen-first, chosen-second}
+use Rattle.quorums.proofs.Tests.{both}
 use Rattle.config.specs.declared.cluster.Config.{Config}
 use Rattle.config.specs.declared.answer.Refusal.{Refusal}
 use Rattle.config.specs.declared.answer.Verdict.{Verdict}
@@ -18,11 +17,12 @@ use Rattle.ledger.specs.Ledgers.{freshLedger}
 use Rattle.message.specs.declared.header.Header.{Header}
 use Rattle.message.specs.Headers.{blankHeader, encode, Bytes, Typed as HeaderTyped}
 use Rattle.message.specs.Cursors.{within}
-use Rattle.message.specs.Answers.{check, Decoded, decode, verdictOf, refusalOf, fits as room, over, writes, writeAnswer, writeBuffer}
+use Rattle.message.specs.Answers.{check, Decoded, decode, verdictOf, fits as room, over, writes, writeAnswer, writeBuffer}
 use Rattle.message.specs.Faults.{kindFits, registerFits, faultOf}
 use Rattle.message.proofs.Registers.{fits-good}
 use Rattle.message.proofs.Faults.{fault-is-check}
 use Rattle.message.proofs.Found.{Taken, taken-told, decode-encode}
+use Rattle.message.proofs.Numbers.{accepted-check, refused-check}
 use Rattle.message.proofs.Rounds.{encode-decode, decode-typed}
 use Rattle.replica.specs.declared.envelope.Envelope.{Envelope}
 use Rattle.replica.specs.declared.envelope.Received.{Received}
@@ -126,17 +126,6 @@ module _ (c : Config) (e : Envelope) (r : Replica) (t : Typed e) (s : TypedRepli
       sent-check (decode-encode c (headerOf e r) (carried r) (header-typed e r t s) sent-check)
 
 -- ---- reading
-
-accepted-check : (k : ℕ) → verdictOf k ≡ Verdict.Accepted → k ≡ 0
-unfolding verdictOf
-accepted-check k e =
-    eqb-true k 0
-    (chosen-first (eqb k 0) Verdict.Accepted (Verdict.Refused (refusalOf k)) Verdict.Accepted (λ d. let z : _≡_ {A = ℕ} 0 1 = cc in omega arith) e .0)
-
-refused-check : (k : ℕ) (n : Refusal) → verdictOf k ≡ Verdict.Refused n → eqb k 0 ≡ false
-unfolding verdictOf
-refused-check k n e =
-    chosen-second (eqb k 0) Verdict.Accepted (Verdict.Refused (refusalOf k)) (Verdict.Refused n) (λ d. let z : _≡_ {A = ℕ} 0 1 = cc in omega arith) e
 
 -- what is refused says nothing: the envelope is blank, and the replica fresh
 pub receive-refused : (c : Config) (msg : List ℕ) (n : Refusal) → receiveOf c msg .verdict ≡ Verdict.Refused n

@@ -20,9 +20,9 @@ abbrev checked : Bool → Bool → Bool → Verdict
 checked v b f = cond v (cond b (cond f Verdict.Accepted (Verdict.Refused Refusal.Light)) (Verdict.Refused Refusal.OddField)) (Verdict.Refused Refusal.BadHouse)
 
 -- a replica whose ledger passes the check fits where its register does
-pub fits-told : (c : Config) (r : Replica) → checkAnswer c (r .ledger) ≡ Verdict.Accepted → fitsRegister (r .register) ≡ fits c r
+pub passed-fits : (c : Config) (r : Replica) → checkAnswer c (r .ledger) ≡ Verdict.Accepted → fitsRegister (r .register) ≡ fits c r
 unfolding fits checkAnswer
-fits-told c r e = by-tests (validOf c) (bounded c (r .ledger)) (aboveFloor c (r .ledger)) e
+passed-fits c r e = by-tests (validOf c) (bounded c (r .ledger)) (aboveFloor c (r .ledger)) e
   where
     by-tests : (v b f : Bool) → checked v b f ≡ Verdict.Accepted → fitsRegister (r .register) ≡ cond v (cond b (cond f (fitsRegister (r .register)) false) false) false
     by-tests true true true d = refl
@@ -31,9 +31,9 @@ fits-told c r e = by-tests (validOf c) (bounded c (r .ledger)) (aboveFloor c (r 
     by-tests false b f d = accepted-not-refused _ (sym d)
 
 -- and one whose ledger does not pass it does not fit
-pub fits-refused : (c : Config) (r : Replica) (k : Refusal) → checkAnswer c (r .ledger) ≡ Verdict.Refused k → false ≡ fits c r
+pub refused-fits : (c : Config) (r : Replica) (k : Refusal) → checkAnswer c (r .ledger) ≡ Verdict.Refused k → false ≡ fits c r
 unfolding fits checkAnswer
-fits-refused c r k e = by-tests (validOf c) (bounded c (r .ledger)) (aboveFloor c (r .ledger)) e
+refused-fits c r k e = by-tests (validOf c) (bounded c (r .ledger)) (aboveFloor c (r .ledger)) e
   where
     by-tests : (v b f : Bool) → checked v b f ≡ Verdict.Refused k → false ≡ cond v (cond b (cond f (fitsRegister (r .register)) false) false) false
     by-tests true true true d = accepted-not-refused k d

@@ -1,18 +1,19 @@
 -- Laws of values: a value and its bytes tell each other, also with zeros after the bytes, and `same` compares the bytes.
-use Prim.Native.Nat.{ℕ, zero, suc, min, _≤_, _<_}
+use Prim.Native.Nat.{ℕ, min, _≤_, _<_}
 use native.Mathlib.Omega.{arith}
 use mathlib.Core.Path.{_≡_, refl, sym, ap, _∙_}
 use mathlib.Core.Logic.{_↔_, ⊎-elim}
 use mathlib.Core.Bool.{true}
 use mathlib.Core.List.{List, []}
 use lib.Dec.{eqb}
-use lib.ListN.{length, getD, take, replicate, length-take, List·getD-eq-default}
+use lib.ListN.{length, getD, take, length-take, List·getD-eq-default}
 use lib.Seq.{take-all, getD-take, ext-getD, length-take-le}
 use borrow.Author.Tests.{eq-eqb, eqb-true, lt-ltb, le-ltb}
 use Rattle.quorums.specs.Sum.{all}
 use Rattle.quorums.proofs.Tests.{le-or-lt, both}
 use Rattle.quorums.proofs.Sums.{all-each, each-all}
 use Rattle.ledger.specs.Tables.{run, table}
+use Rattle.ledger.proofs.Fresh.{zeros}
 use Rattle.ledger.proofs.Tables.{table-at, table-length}
 use Rattle.replica.specs.declared.value.Value.{Value}
 use Rattle.replica.specs.Values.{bytesOf, valueOf, emptyValue, trimmed, sameByte, sameAt, same, Typed}
@@ -25,12 +26,6 @@ take-within n m l h =
     ⊎-elim (λ (b : n ≤ m). let e : min n m ≡ n = omega arith in rw e)
     (λ (b : m < n). take-all (min n m) l (omega arith) ∙ sym (take-all n l (omega arith)))
     (le-or-lt n m)
-
--- a list of zeros has 0 at every index, also past its end
-zeros-at : (n k : ℕ) → _≡_ {A = ℕ} (getD (replicate n 0) k 0) 0
-zeros-at zero k = refl
-zeros-at (suc n) zero = refl
-zeros-at (suc n) (suc k) = zeros-at n k
 
 -- what is below a bound within a list is below it past the end too, where there is 0
 all-below : (b : ℕ) (l : List ℕ) → 0 < b → ((k : ℕ) → k < length l → getD l k 0 < b) → (k : ℕ) → getD l k 0 < b
@@ -73,7 +68,7 @@ value-typed l h =
     }
 
 pub empty-typed : Typed emptyValue
-empty-typed = record { bytes-length = refl; length-fits = omega arith; byte-fits = λ k. omega (arith, zeros-at 64 k) }
+empty-typed = record { bytes-length = refl; length-fits = omega arith; byte-fits = λ k. omega (arith, zeros 64 k) }
 
 -- ---- the bytes of a value
 

@@ -1,6 +1,7 @@
 -- What the answers of the parts of a call tell: of a join, and of serve at each of its tests.
-use Prim.Native.Nat.{ℕ}
+use Prim.Native.Nat.{ℕ, _≤_}
 use mathlib.Core.Path.{_≡_, refl, sym, ap, _∙_}
+use borrow.Author.Tests.{le-ltb}
 use mathlib.Core.Bool.{Bool, true, false, cond, not, false≢true}
 use mathlib.Core.List.{List}
 use lib.Dec.{eqb, ltb}
@@ -26,51 +27,46 @@ use Rattle.server.specs.Serves.{Outcome, refuse, refused, stray, clashes
 
 -- ---- a join
 
--- whether a replica knows more transfers of a server's than it made
-abbrev more : Server → Replica → Bool
-more s r = ltb (countOf (s .replica .ledger) (s .number)) (countOf (r .ledger) (s .number))
-
--- what `join` answers in a cluster that is one, by that and by whether the replicas join
-abbrev answered : Server → Replica → Bool → Bool → Joined
-answered s r m j =
-    cond m (notJoined Refusal.Clash (s .replica)) (cond j (accepted (join (s .replica) r)) (notJoined Refusal.Clash (s .replica)))
-
-join-is : (s : Server) (r : Replica) → validOf (s .config) ≡ true → joinOf s r ≡ answered s r (more s r) (joinable (s .config) (s .replica) r)
-unfolding joinOf joinAnswer
-join-is s r v = rw v refl
+-- where the server's own row is no reason to refuse, the replicas decide
+pub join-rest : (s : Server) (r : Replica)
+    → validOf (s .config) ≡ true
+    → countOf (r .ledger) (s .number) ≤ countOf (s .replica .ledger) (s .number)
+    → joinAnswer (s .config) (s .replica) r ≡ joinOf s r
+unfolding joinAnswer joinOf clashes
+join-rest s r v l = rw (v, le-ltb _ _ l) (by-test (joinable (s .config) (s .replica) r))
+  where
+    by-test : (j : Bool)
+        → cond j (accepted (join (s .replica) r)) (notJoined Refusal.Clash (s .replica))
+        ≡ cond (not j) (notJoined Refusal.Clash (s .replica)) (accepted (join (s .replica) r))
+    by-test true = refl
+    by-test false = refl
 
 -- what is accepted does not clash, and is the replicas together
 pub join-told : (s : Server) (r : Replica) (x : Joined)
-    → validOf (s .config) ≡ true
     → x ≡ joinOf s r
     → x .verdict ≡ Verdict.Accepted
     → (clashes s r ≡ false) × (x .replica ≡ join (s .replica) r)
-unfolding clashes
-join-told s r x v e t = by-tests (more s r) (joinable (s .config) (s .replica) r) (e ∙ join-is s r v)
+unfolding joinOf
+join-told s r x e t = by-test (clashes s r) e
   where
-    by-tests : (m j : Bool) → x ≡ answered s r m j → (cond m true (not j) ≡ false) × (x .replica ≡ join (s .replica) r)
-    by-tests true j d = accepted-not-refused _ (sym t ∙ ap (λ y. y .verdict) d)
-    by-tests false true d = (refl, ap (λ y. y .replica) d)
-    by-tests false false d = accepted-not-refused _ (sym t ∙ ap (λ y. y .verdict) d)
+    by-test : (b : Bool) → x ≡ cond b (notJoined Refusal.Clash (s .replica)) (accepted (join (s .replica) r)) → (b ≡ false) × (x .replica ≡ join (s .replica) r)
+    by-test true d = accepted-not-refused _ (sym t ∙ ap (λ y. y .verdict) d)
+    by-test false d = (refl, ap (λ y. y .replica) d)
 
 -- what is refused clashes
-pub join-refused : (s : Server) (r : Replica) (x : Joined) (k : Refusal)
-    → validOf (s .config) ≡ true
-    → x ≡ joinOf s r
-    → x .verdict ≡ Verdict.Refused k
-    → clashes s r ≡ true
-unfolding clashes
-join-refused s r x k v e t = by-tests (more s r) (joinable (s .config) (s .replica) r) (e ∙ join-is s r v)
+pub join-refused : (s : Server) (r : Replica) (x : Joined) (k : Refusal) → x ≡ joinOf s r → x .verdict ≡ Verdict.Refused k → clashes s r ≡ true
+unfolding joinOf
+join-refused s r x k e t = by-test (clashes s r) e
   where
-    by-tests : (m j : Bool) → x ≡ answered s r m j → cond m true (not j) ≡ true
-    by-tests true j d = refl
-    by-tests false true d = accepted-not-refused _ (sym (ap (λ y. y .verdict) d) ∙ t)
-    by-tests false false d = refl
+    by-test : (b : Bool) → x ≡ cond b (notJoined Refusal.Clash (s .replica)) (accepted (join (s .replica) r)) → b ≡ true
+    by-test true d = refl
+    by-test false d = accepted-not-refused _ (sym (ap (λ y. y .verdict) d) ∙ t)
 
 -- a replica that does not clash joins with the server's
 pub clear-joinable : (s : Server) (r : Replica) → clashes s r ≡ false → joinable (s .config) (s .replica) r ≡ true
 unfolding clashes
-clear-joinable s r e = by-tests (more s r) (joinable (s .config) (s .replica) r) e
+clear-joinable s r e =
+    by-tests (ltb (countOf (s .replica .ledger) (s .number)) (countOf (r .ledger) (s .number))) (joinable (s .config) (s .replica) r) e
   where
     by-tests : (m j : Bool) → cond m true (not j) ≡ false → j ≡ true
     by-tests true j d = absurd (false≢true (sym d))

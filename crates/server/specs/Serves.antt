@@ -13,7 +13,7 @@ use Rattle.message.specs.Answers.{fits as room}
 use Rattle.replica.specs.declared.envelope.Envelope.{Envelope}
 use Rattle.replica.specs.declared.replica.Replica.{Replica}
 use Rattle.replica.specs.declared.replica.Joined.{Joined}
-use Rattle.replica.specs.Replicas.{joinable, join, joinAnswer, refused as notJoined}
+use Rattle.replica.specs.Replicas.{joinable, join, accepted, refused as notJoined}
 use Rattle.replica.specs.Envelopes.{request, reply, share, messageOf, place, receiveOf}
 use Rattle.server.specs.declared.record.Server.{Server}
 use Rattle.server.specs.declared.serve.Served.{Served}
@@ -41,11 +41,9 @@ stray s e = cond (eqb (e .kind) share) false (cond (eqb (e .kind) request) (not 
 unfoldable pub clashes : Server → Replica → Bool
 clashes s r = cond (ltb (countOf (s .replica .ledger) (s .number)) (countOf (r .ledger) (s .number))) true (not (joinable (s .config) (s .replica) r))
 
--- what the private function that joins gives
+-- what the server holds, joined with r, or 6
 unfoldable pub joinOf : Server → Replica → Joined
-joinOf s r =
-    cond (ltb (countOf (s .replica .ledger) (s .number)) (countOf (r .ledger) (s .number))) (notJoined Refusal.Clash (s .replica))
-    (joinAnswer (s .config) (s .replica) r)
+joinOf s r = cond (clashes s r) (notJoined Refusal.Clash (s .replica)) (accepted (join (s .replica) r))
 
 -- the server after joining
 abbrev pub joinedServer : Server → Replica → Server

@@ -1,28 +1,17 @@
 -- The number that the reader gives to the bytes of a share without a register, found without the bytes.
 use Prim.Native.Nat.{ℕ, _≤_}
 use native.Mathlib.Omega.{arith}
-use mathlib.Core.Path.{_≡_, refl, sym, _∙_}
-use mathlib.Core.Bool.{Bool, true, false}
-use mathlib.Core.List.{List, []}
-use borrow.Author.Tests.{eqb-true}
-use lib.Dec.{eqb}
+use mathlib.Core.Path.{_≡_, _∙_}
+use mathlib.Core.List.{[]}
 use Rattle.config.specs.declared.cluster.Config.{Config}
 use Rattle.ledger.specs.declared.ledger.Ledger.{Ledger}
 use Rattle.ledger.specs.Ledgers.{Typed as TypedLedger}
 use Rattle.message.specs.declared.header.Header.{Header}
 use Rattle.message.specs.Headers.{encode, Typed}
-use Rattle.message.specs.Answers.{check, decode}
+use Rattle.message.specs.Answers.{decode}
 use Rattle.message.specs.Faults.{faultOf}
 use Rattle.message.proofs.Faults.{fault-is-check}
-
--- the number of what was read is that of the check
-decode-number : (c : Config) (msg : List ℕ) → decode c msg .number ≡ check c msg
-unfolding decode
-decode-number c msg = by-test (eqb (check c msg) 0) refl
-  where
-    by-test : (b : Bool) → eqb (check c msg) 0 ≡ b → decode c msg .number ≡ check c msg
-    by-test true e = rw e (sym (eqb-true (check c msg) 0 e))
-    by-test false e = rw e refl
+use Rattle.message.proofs.Numbers.{decode-number}
 
 -- a share from server i with the ledger l and no register
 abbrev pub share : ℕ → Ledger → Header

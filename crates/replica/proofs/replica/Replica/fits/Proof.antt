@@ -1,7 +1,7 @@
 -- `fits` meets its contract: the ledger's check first, then the register.
 use mathlib.Core.Path.{sym, _∙_}
 use borrow.Author.Needs.{needs}
-use Rattle.replica.proofs.Told.{fits-told, fits-refused}
+use Rattle.replica.proofs.Told.{passed-fits, refused-fits}
 use Rattle.replica.proofs.replica.Replica.fits.Statement.{statement}
 use Rattle.replica.proofs.replica.Replica.fits.Tie as tie
 
@@ -15,13 +15,13 @@ enum-told-2 : tie.Need-enum-told-2
 enum-told-2 c = search needs
 
 returns : tie.Need-returns
-returns c = fits-refused _ _ _ (sym (c .before .before .check .ensures) ∙ c .enum-told2 .given .1)
+returns c = refused-fits _ _ _ (sym (c .before .before .check .ensures) ∙ c .enum-told2 .given .1)
 
 fits-requires : tie.Need-fits-requires
 fits-requires c κs = search needs
 
 returns-2 : tie.Need-returns-2
-returns-2 c = c .fits2 .ensures ∙ fits-told _ _ (sym (c .before .before .before .check .ensures) ∙ c .before .enum-told .given .1)
+returns-2 c = c .fits2 .ensures ∙ passed-fits _ _ (sym (c .before .before .before .check .ensures) ∙ c .before .enum-told .given .1)
 
 pub fits-spec : {M : Type 1} → statement M
 fits-spec =

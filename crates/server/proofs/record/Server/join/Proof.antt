@@ -2,12 +2,20 @@
 use Prim.Native.Nat.{_<_}
 use native.Mathlib.Omega.{arith}
 use borrow.Author.Needs.{needs}
-use borrow.Author.Tests.{lt-ltb, le-ltb}
-use Rattle.config.proofs.Clusters.{server-small}
-use Rattle.server.specs.Serves.{joinOf}
+use mathlib.Core.Path.{_≡_, _∙_}
+use mathlib.Core.Bool.{true}
+use borrow.Author.Tests.{lt-ltb}
+use Rattle.config.specs.Cluster.{validOf}
+use Rattle.config.proofs.Clusters.{server-valid, server-small}
+use Rattle.server.specs.Serves.{clashes, joinOf}
 use Rattle.server.proofs.Servers.{fits-told}
+use Rattle.server.proofs.Told.{join-rest}
 use Rattle.server.proofs.record.Server.join.Statement.{statement}
 use Rattle.server.proofs.record.Server.join.Tie as tie
+
+-- the cluster is within bounds
+valid : (s : tie.Start) → validOf (s .args .self .config) ≡ true
+valid s = server-valid _ _ (fits-told _ (s .pre) .server-in) .0
 
 -- a server of a cluster has a small number
 small : (s : tie.Start) → s .args .self .number < 16
@@ -26,15 +34,14 @@ element-copy-out-if1-2 : tie.Need-element-copy-out-if1-2
 element-copy-out-if1-2 c = small (c .before .before .before .before .before)
 
 returns : tie.Need-returns
-unfolding joinOf
+unfolding joinOf clashes
 returns c = simp (lt-ltb _ _ (c .if1 .taken))
 
 join-requires : tie.Need-join-requires
 join-requires c κs = search needs
 
 returns-2 : tie.Need-returns-2
-unfolding joinOf
-returns-2 c = simp (le-ltb _ _ (c .before .if1 .left)) (c .join .ensures)
+returns-2 c = c .join .ensures ∙ join-rest _ _ (valid (c .before .before .before .before .before .before .before .before)) (c .before .if1 .left)
 
 pub join-spec : {M : Type 1} → statement M
 join-spec =

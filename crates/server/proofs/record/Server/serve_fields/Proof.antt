@@ -1,12 +1,11 @@
 -- `serve_fields` meets its contract: what is stray and what clashes is refused, a share is joined, and a request is joined and replied to.
 use native.Mathlib.Omega.{arith}
 use mathlib.Core.Path.{_≡_, sym, ap, _∙_}
-use mathlib.Core.Bool.{true, false}
+use mathlib.Core.Bool.{false}
 use borrow.Author.Needs.{needs}
 use borrow.Author.Tests.{eq-eqb, ne-eqb}
 use lib.Dec.{eqb}
-use Rattle.config.specs.Cluster.{validOf}
-use Rattle.config.proofs.Clusters.{server-valid, server-small}
+use Rattle.config.proofs.Clusters.{server-small}
 use Rattle.replica.specs.Replicas.{join}
 use Rattle.server.specs.declared.serve.Served.{Served}
 use Rattle.server.specs.Servers.{holding, Typed}
@@ -22,9 +21,6 @@ use Rattle.server.proofs.record.Server.serve_fields.Tie as tie
 
 typed : (s : tie.Start) → Typed (s .args .self)
 typed s = server-is-typed (s .args .self) _ (s .good .0)
-
-valid : (s : tie.Start) → validOf (s .args .self .config) ≡ true
-valid s = server-valid _ _ (fits-told _ (s .pre .0) .server-in) .0
 
 stray-requires : tie.Need-stray-requires
 stray-requires c κs = search needs
@@ -59,7 +55,7 @@ unserved-requires-2 c κs = search needs
 returns-2 : tie.Need-returns-2
 returns-2 c =
     let j : tie.After-join = c .before .before .before .before in
-    let clash = join-refused _ _ _ _ (valid (entry j)) (j .join .ensures) (c .before .enum-told2 .given .1) in
+    let clash = join-refused _ _ _ _ (j .join .ensures) (c .before .enum-told2 .given .1) in
     refuse-told _ _ _ _ _ (c .unserved2 .ensures) (fields-clash _ _ _ _ _ (stays j) clash)
 
 -- a message that joins
@@ -69,7 +65,7 @@ joined-entry c = entry (c .before .before .before)
 joins : (c : tie.After-enum-told)
     → (clashes (joined-entry c .args .self) (joined-entry c .args .replica) ≡ false)
     × (c .before .before .before .join .result .replica ≡ join (joined-entry c .args .self .replica) (joined-entry c .args .replica))
-joins c = join-told _ _ _ (valid (joined-entry c)) (c .before .before .before .join .ensures) (c .enum-told .given .1)
+joins c = join-told _ _ _ (c .before .before .before .join .ensures) (c .enum-told .given .1)
 
 returns-3 : tie.Need-returns-3
 returns-3 c =
