@@ -10,7 +10,7 @@ use mathlib.Core.List.{List}
 use borrow.Author.Tests.{lt-ltb, le-ltb, eq-eqb, ne-eqb, eqb-true, leb-true}
 use lib.Dec.{eqb}
 use lib.ListN.{getD, length}
-use Rattle.quorums.proofs.Tests.{le-or-lt}
+use Rattle.quorums.proofs.Tests.{le-or-lt, eqb-comm}
 use Rattle.quorums.proofs.Sums.{all-each, each-all, all-same}
 use Rattle.ledger.specs.declared.ledger.Ledger.{Ledger}
 use Rattle.ledger.specs.Ledgers.{countOf, Typed, accepted}
@@ -63,14 +63,6 @@ later-either P m n x y p q =
 agree-self : (m x : ℕ) → agree m m x x ≡ true
 unfolding agree
 agree-self m x = rw (le-ltb m m (omega arith)) (eq-eqb x x refl)
-
-eqb-comm : (x y : ℕ) → eqb x y ≡ eqb y x
-eqb-comm x y =
-    ⊎-elim (λ (h : x ≤ y). ⊎-elim (λ (k : y ≤ x). eq-eqb x y (omega arith) ∙ sym (eq-eqb y x (omega arith))) (λ (k : x < y). apart x y (λ e. omega arith)) (le-or-lt y x))
-    (λ (h : y < x). apart x y (λ e. omega arith)) (le-or-lt x y)
-  where
-    apart : (u v : ℕ) → (u ≡ v → ⊥) → eqb u v ≡ eqb v u
-    apart u v h = ne-eqb u v h ∙ sym (ne-eqb v u (λ e. h (sym e)))
 
 agree-comm : (m n x y : ℕ) → agree m n x y ≡ agree n m y x
 unfolding agree

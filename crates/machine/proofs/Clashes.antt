@@ -13,8 +13,9 @@ use Rattle.config.specs.declared.cluster.Config.{Config}
 use Rattle.machine.specs.Sets.{Transfers, includes, union, count}
 use Rattle.machine.specs.Parties.{Replica, reply, Message}
 use Rattle.machine.specs.Runs.{Step, nth, Run, at}
-use Rattle.machine.specs.Operations.{deskAt}
-use Rattle.machine.specs.Clauses.{SameTag, Found, by-server, by-desk, by-message, Sound}
+use Rattle.machine.specs.Views.{SameTag}
+use Rattle.machine.specs.Seen.{deskAt}
+use Rattle.machine.specs.Clauses.{Found, by-server, by-desk, by-message, Sound}
 use Rattle.machine.proofs.Lists.{In, nth-in}
 use Rattle.machine.proofs.Histories.{Lawfully, Closed, _⊇_}
 use Rattle.machine.proofs.Closed.{AllOf, part-count}
@@ -26,12 +27,14 @@ use Rattle.machine.proofs.Traces.{by-server as held-by-server, by-desk 
 use Rattle.machine.proofs.Values.{same-tag-same-register}
 use Rattle.machine.proofs.Sheets.{sound, found-closed, found-later, union-closed}
 use Rattle.machine.proofs.Rows.{Agree, closed-agree, closed-includes}
+use Rattle.machine.proofs.SetRanges.{SetRange, union-range}
 use Rattle.machine.proofs.Replies.{current-has}
 
--- two replicas join: no row clashes, equal tags have equal values, and the joined set is not light
+-- two replicas join: no row clashes, equal tags have equal values, and the joined set is within the ranges of the byte table and not light
 pub record Joins (c : Config) (x y : Replica) : Type 0 where
   pub rows : (i : ℕ) → Agree (x .set) (y .set) i
   pub registers : SameTag (x .register) (y .register) → x .register ≡ y .register
+  pub range : SetRange c (union (x .set) (y .set))
   pub sound : Sound c (union (x .set) (y .set))
 
 module _ (c : Config) (valid : validOf c ≡ true) (steps : List Step) where
@@ -70,6 +73,7 @@ module _ (c : Config) (valid : validOf c ≡ true) (steps : List Step) where
         record {
           rows = found-agree k k _ _ (by-server i refl) (by-message p m sent refl);
           registers = same-tag-same-register c steps k k _ _ (held-by-server i refl) (sent-by m (nth-in (at r k .sent) p m sent) refl);
+          range = union-range c valid steps k k _ _ (by-server i refl) (by-message p m sent refl);
           sound = found-sound k k _ _ (by-server i refl) (by-message p m sent refl);
         }
 
@@ -78,6 +82,7 @@ module _ (c : Config) (valid : validOf c ≡ true) (steps : List Step) where
         record {
           rows = found-agree k k _ _ (by-desk d refl) (by-message p m sent refl);
           registers = same-tag-same-register c steps k k _ _ (held-by-desk d refl) (sent-by m (nth-in (at r k .sent) p m sent) refl);
+          range = union-range c valid steps k k _ _ (by-desk d refl) (by-message p m sent refl);
           sound = found-sound k k _ _ (by-desk d refl) (by-message p m sent refl);
         }
 

@@ -12,7 +12,8 @@ use Rattle.machine.specs.Sets.{Transfers, quorumOf}
 use Rattle.machine.specs.Parties.{Register, join, Message, Task, valueOf, first, second, Operation, running, Desk, answered}
 use Rattle.machine.specs.Calls.{mostRound, mostValue, Answer, done, wrote, told, begun, restarted, no-stamp, moved-on, finished, marked, dropped, knows}
 use Rattle.machine.specs.Runs.{machine, Step, begin, hear, put, nth, when, Made, nothing, take, Run, State, at, answerAt}
-use Rattle.machine.specs.Operations.{deskAt, Begins, accepted, heardBy, brings}
+use Rattle.machine.specs.Views.{Begins}
+use Rattle.machine.specs.Seen.{deskAt, accepted, heardBy, brings, viewOf}
 use Rattle.machine.proofs.Branches.{branch, Resting}
 use Rattle.machine.proofs.Histories.{History}
 use Rattle.machine.proofs.Moves.{Heard, moved}
@@ -28,7 +29,7 @@ put-cases P f i a x p q = branch P (eqb x i) a (f x) (λ e. p (eqb-true x i e)) 
 -- what can become of the desk x, which has the number d, at place k of the run r; P takes what the step brings and the desk after it
 pub record DeskMoves (r : Run) (d k : ℕ) (x : Desk) (P : Transfers → Desk → Type 0) : Type 0 where
   pub still : P [] x
-  pub begins : (t : Task) (note : ℕ) → Begins r d k t → length (valueOf t) ≤ mostValue → Resting (x .activity) → x .round < mostRound
+  pub begins : (t : Task) (note : ℕ) → Begins (viewOf r) d k t → length (valueOf t) ≤ mostValue → Resting (x .activity) → x .round < mostRound
       → P [] (begun x t note)
   pub drops : (o : Operation) → x .activity ≡ running o → P [] (dropped x)
   pub restarts : (p : ℕ) (m : Message) (o : Operation) → Heard (at r k) (hear d p) d p m o → knows x m ≡ false

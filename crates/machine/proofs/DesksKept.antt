@@ -2,16 +2,16 @@
 use Prim.Native.Nat.{ℕ, suc, _≤_}
 use native.Mathlib.Omega.{arith}
 use mathlib.Core.Path.{_≡_, refl, sym, ap, _∙_, subst}
-use mathlib.Core.Logic.{_⊎_, ⊎-elim}
+use mathlib.Core.Logic.{⊎-elim}
 use mathlib.Core.List.{List, [], _∷_, _++_}
 use Rattle.config.specs.declared.cluster.Config.{Config}
 use Rattle.machine.specs.Sets.{Transfers, has}
-use Rattle.machine.specs.Parties.{Register, Replica, join, Kind, request, reply, Message, kindNumber, Server, Task, Operation, Desk}
+use Rattle.machine.specs.Parties.{Register, Replica, join, Kind, request, Message, kindNumber, Server, Task, Operation, Desk}
 use Rattle.machine.specs.Calls.{Answer, done, accept, begun, requestOf, restarted, moved-on, chosen, finished, marked, dropped}
 use Rattle.machine.specs.Runs.{State, afterDesk}
-use Rattle.machine.specs.Clauses.{_≼_}
+use Rattle.machine.specs.Views.{_≼_}
 use Rattle.machine.proofs.Lists.{In, in-either, in-one, each-append}
-use Rattle.machine.proofs.Outcomes.{sends, Hearing}
+use Rattle.machine.proofs.Outcomes.{Hearing}
 use Rattle.machine.proofs.Tags.{tag-refl, tag-trans, chosen-above}
 use Rattle.machine.proofs.Sets.{test-false}
 use Rattle.machine.proofs.Histories.{History, Good, _⊇_}

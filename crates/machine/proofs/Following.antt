@@ -8,11 +8,11 @@ use mathlib.Core.Logic.{_⊎_, inl, inr, ⊎-elim}
 use mathlib.Core.Bool.{Bool, true, false}
 use mathlib.Core.List.{List, [], _∷_, _++_, append-nil}
 use Rattle.config.specs.declared.cluster.Config.{Config}
-use Rattle.machine.specs.Sets.{Transfers, has}
+use Rattle.machine.specs.Sets.{Transfers}
 use Rattle.machine.specs.Parties.{Register, Replica, join, request, reply, Message, Operation, Activity, idle, running, ended, Desk}
-use Rattle.machine.specs.Calls.{Answer, done, wrote, accept, begun, requestOf, restarted, moved-on, finished, marked, dropped, replyTo, given-away, knows, served}
+use Rattle.machine.specs.Calls.{Answer, done, wrote, accept, begun, requestOf, restarted, moved-on, finished, marked, dropped, replyTo, given-away, served}
 use Rattle.machine.specs.Runs.{machine, Step, State, afterDesk, afterServer, afterCrash, put, take}
-use Rattle.machine.specs.Clauses.{_≼_}
+use Rattle.machine.specs.Views.{_≼_}
 use Rattle.machine.proofs.Lists.{In, in-either, in-one, nth-in}
 use Rattle.machine.proofs.Outcomes.{Hearing, shareOf}
 use Rattle.machine.proofs.Tags.{tag-refl, tag-trans}

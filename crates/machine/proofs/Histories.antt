@@ -10,7 +10,7 @@ use Rattle.quorums.specs.Accounts.{weight, above}
 use Rattle.machine.specs.Sets.{Transfer, Transfers, has, count, accountsFrom}
 use Rattle.machine.specs.Parties.{Register, Replica}
 use Rattle.machine.specs.Calls.{mostCount}
-use Rattle.machine.specs.Clauses.{_≼_}
+use Rattle.machine.specs.Views.{_≼_}
 use Rattle.machine.proofs.Lists.{In}
 
 -- no transfer stands twice

@@ -9,7 +9,7 @@ use Rattle.config.specs.declared.cluster.Config.{Config}
 use Rattle.machine.specs.Sets.{Transfers, has}
 use Rattle.machine.specs.Parties.{Register, reply, share, Message, Server, Phase, first, second, Operation, Activity, idle, running, ended, Desk}
 use Rattle.machine.specs.Runs.{State}
-use Rattle.machine.specs.Clauses.{_≼_}
+use Rattle.machine.specs.Views.{_≼_}
 use Rattle.machine.proofs.Lists.{In}
 use Rattle.machine.proofs.Histories.{Gift, History, Lawfully, Good, Closed}
 use Rattle.machine.proofs.Closed.{AllOf, closed-each}

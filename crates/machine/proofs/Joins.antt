@@ -1,6 +1,6 @@
 -- Laws of joining replicas: the joined set has each part's transfers, and the joined register is one of the two and no lower than either.
 use Rattle.machine.specs.Parties.{Register, Replica, join}
-use Rattle.machine.specs.Clauses.{_≼_}
+use Rattle.machine.specs.Views.{_≼_}
 use Rattle.machine.proofs.Histories.{_⊇_}
 use Rattle.machine.proofs.Tags.{higher-left, higher-right, higher-either}
 use Rattle.machine.proofs.Sets.{union-left, union-right}

@@ -35,8 +35,8 @@ pub mod Always
 pub mod Sheets
 pub mod Rows
 pub mod Replies
-pub mod Clashes
 pub mod SetRanges
+pub mod Clashes
 pub mod WorkRanges
 pub mod Ranges
 -- The published rule, the order of tags, and all clauses together.

@@ -13,7 +13,7 @@ use Rattle.machine.specs.Sets.{count, quorumOf}
 use Rattle.machine.specs.Parties.{Register, Replica, join, request, share, Message, Server, Task, valueOf, first, second, Operation, Result, running, ended, Desk, answered}
 use Rattle.machine.specs.Calls.{mostRound, mostValue, Answer, unmade, late, refused, done, wrote, told, Outcome, accept, given-away, replyTo, begun, requestOf, restarted, no-stamp, moved-on, finished, marked, dropped, knows, served}
 use Rattle.machine.specs.Runs.{machine, Step, begin, ask, serve, hear, result, drop, transfer, share, crash, State, put, nth, Made, nothing, afterServer, onServer, afterDesk, onDesk, afterCrash, onCrash, take}
-use Rattle.machine.specs.Operations.{accepted}
+use Rattle.machine.specs.Seen.{accepted}
 use Rattle.machine.proofs.Branches.{branch, when-cases, Resting}
 use Rattle.machine.proofs.Outcomes.{sends, Giving, transfer-cases, shareOf, share-cases, serve-cases, begin-cases, ask-cases, Hearing, hear-cases, result-cases, drop-cases}
 use Rattle.machine.proofs.Histories.{Gift, History}

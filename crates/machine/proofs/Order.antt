@@ -4,7 +4,7 @@
 use Prim.Native.Nat.{ℕ, suc, _≤_, _<_}
 use native.Mathlib.Omega.{arith}
 use mathlib.Core.Path.{_≡_, refl, sym, ap, _∙_, subst}
-use mathlib.Core.Bool.{Bool, true, false, false≢true}
+use mathlib.Core.Bool.{Bool, true, false≢true}
 use mathlib.Core.List.{List, [], _∷_, _++_}
 use mathlib.Core.Option.{Option, none, some}
 use Rattle.config.specs.Cluster.{validOf}
@@ -13,8 +13,8 @@ use Rattle.machine.specs.Sets.{Transfers}
 use Rattle.machine.specs.Parties.{Register, below, Replica, join, Task, read, write, writes, Phase, first, second, Operation, Result, Activity, idle, running, ended, answered}
 use Rattle.machine.specs.Calls.{chosen}
 use Rattle.machine.specs.Runs.{machine, Step, State, Run, nth, when, nothing, take, at}
-use Rattle.machine.specs.Operations.{deskAt, Begins, Chose}
-use Rattle.machine.specs.Clauses.{_≼_, Order}
+use Rattle.machine.specs.Views.{Begins, Chose, _≼_, Order}
+use Rattle.machine.specs.Seen.{deskAt, viewOf}
 use Rattle.machine.proofs.Lists.{nth-in}
 use Rattle.machine.proofs.Tags.{tag-trans, tag-below, write-above, chosen-above}
 use Rattle.machine.proofs.Histories.{History}
@@ -23,7 +23,7 @@ use Rattle.machine.proofs.Moves.{giftOf}
 use Rattle.machine.proofs.Desks.{runOf, desk-moved}
 use Rattle.machine.proofs.Phases.{Finish, ends-finish}
 use Rattle.machine.proofs.Places.{from-on}
-use Rattle.machine.proofs.Performed.{NoBegin, during, begins-is}
+use Rattle.machine.proofs.Performed.{NoBegin, during, begins-is, chosen-runs}
 use Rattle.machine.proofs.Results.{results}
 use Rattle.machine.proofs.Invariant.{Since, Spreading, Invariant, of-running, of-second}
 use Rattle.machine.proofs.DesksKept.{answered-since}
@@ -130,7 +130,7 @@ module _ (c : Config) (valid : validOf c ≡ true) (steps : List Step) where
     abbrev Later : ℕ → Type 0
     Later q = (deskAt r e k .round < deskAt r e q .round) × Stage x u (deskAt r e q .activity)
 
-    later-next : (q : ℕ) → k ≤ q → NoBegin r e q → Later q → Later (suc q)
+    later-next : (q : ℕ) → k ≤ q → NoBegin (viewOf r) e q → Later q → Later (suc q)
     later-next q l none-here (raised, stage) =
         desk-moved c steps e q (λ b y. (deskAt r e k .round < y .round) × Stage x u (y .activity))
         (record {
@@ -168,21 +168,22 @@ module _ (c : Config) (valid : validOf c ≡ true) (steps : List Step) where
         running-stage o f = subst (Stage x u) f stage
 
     -- right after its begin B has chosen nothing, and its round is above all that was sent before
-    later-begun : (j : ℕ) → k ≤ j → Begins r e j u → Later (suc j)
+    later-begun : (j : ℕ) → k ≤ j → Begins (viewOf r) e j u → Later (suc j)
     later-begun j l b =
         let y = begins-is c steps e j u b in
         subst (λ z. (deskAt r e k .round < z .round) × Stage x u (z .activity)) (sym (y .after)) (omega (arith, round-rises e k j l), (refl, tt))
 
-    later-chosen : (j : ℕ) (g : Register) → k < j → Chose r e j u g → Ordered x u g
+    later-chosen : (j : ℕ) (g : Register) → k < j → Chose (viewOf r) e j u g → Ordered x u g
     later-chosen j g l b =
         let s : Later (b .place) =
         during Later (suc j) (b .place) (omega arith) (b .current .earlier) (b .current) (λ q m cur none-here s. later-next q (omega arith) none-here s)
         (later-begun j (omega arith) (b .current .begun)) in
-        let here : Stage x u (running (b .operation)) = subst (Stage x u) (b .runs) (s .1) in
-        subst (Chosen x u) (b .phase-two) (here .1)
+        let two = chosen-runs (deskAt r e (b .place) .activity) g (b .phase-two) in
+        let here : Stage x u (running (two .operation)) = subst (Stage x u) (two .runs) (s .1) in
+        subst (Chosen x u) (two .phase-two) (here .1)
 
 -- Theorem: the order of tags.
-pub order : (c : Config) → validOf c ≡ true → (steps : List Step) → Order (runOf c steps)
+pub order : (c : Config) → validOf c ≡ true → (steps : List Step) → Order (viewOf (runOf c steps))
 order c valid steps d i k t x a ends chose e j u b l later =
     subst (λ g. (g ≼ b) × (writes u ≡ true → below g b ≡ true)) (sym (results c steps .tag d i k t x a ends chose))
     (later-chosen c valid steps d k t x (ends-finish c steps ends) e u j b l later)

@@ -4,18 +4,19 @@ use Prim.Native.Nat.{ℕ, zero, suc, _≤_, _<_}
 use native.Mathlib.Omega.{arith}
 use mathlib.Core.Path.{_≡_, refl, sym, ap, _∙_, subst}
 use mathlib.Core.Logic.{_⊎_, inl, inr, ⊎-elim}
-use mathlib.Core.Bool.{true, false, false≢true}
+use mathlib.Core.Bool.{false, false≢true}
 use mathlib.Core.List.{List}
-use mathlib.Core.Option.{none, some}
+use mathlib.Core.Option.{none, some, Option·none-ne-some, Option·some-injective}
 use lib.ListN.{length}
 use Rattle.quorums.proofs.Tests.{le-or-lt}
 use Rattle.quorums.proofs.Sums.{below-suc}
 use Rattle.config.specs.declared.cluster.Config.{Config}
 use Rattle.config.specs.declared.answer.Refusal.{Refusal}
-use Rattle.machine.specs.Parties.{Task, valueOf, Operation, Result, Activity, idle, running, ended, if-ended, Desk}
+use Rattle.machine.specs.Parties.{Register, Task, valueOf, Phase, first, second, by-phase, Operation, Result, Activity, idle, running, ended, if-ended, Desk}
 use Rattle.machine.specs.Calls.{mostRound, mostValue, Answer, unmade, refused, done, told, accept, refuse, begun, beginBy, resultBy}
 use Rattle.machine.specs.Runs.{machine, Step, begin, hear, put, nth, when, nothing, take, Run, State, at, answerAt}
-use Rattle.machine.specs.Operations.{deskAt, Begins, Current, Gives, Ends, accepted}
+use Rattle.machine.specs.Views.{View, Begins, Current, Ends}
+use Rattle.machine.specs.Seen.{deskAt, resultIn, chosenIn, accepted, viewOf}
 use Rattle.machine.proofs.Places.{from-on}
 use Rattle.machine.proofs.Branches.{Resting}
 use Rattle.machine.proofs.Outcomes.{begin-cases}
@@ -25,55 +26,55 @@ use Rattle.machine.proofs.Desks.{runOf, put-cases, desk-moved}
 -- ---- the last begin before a place, in any run
 
 -- desk d begins no operation at place k
-abbrev pub NoBegin : Run → ℕ → ℕ → Type 0
-NoBegin r d k = (u : Task) → Begins r d k u → ⊥
+abbrev pub NoBegin : View → ℕ → ℕ → Type 0
+NoBegin v d k = (u : Task) → Begins v d k u → ⊥
 
-pub current-new : {r : Run} {d k : ℕ} {t : Task} → Begins r d k t → Current r d k t (suc k)
+pub current-new : {v : View} {d k : ℕ} {t : Task} → Begins v d k t → Current v d k t (suc k)
 current-new b = record { begun = b; earlier = omega arith; last = λ p u l m. absurd (omega arith) }
 
-pub current-next : {r : Run} {d i k : ℕ} {t : Task} → Current r d i t k → NoBegin r d k → Current r d i t (suc k)
-current-next {r} {d} {i} {k} {t} h none-here =
+pub current-next : {v : View} {d i k : ℕ} {t : Task} → Current v d i t k → NoBegin v d k → Current v d i t (suc k)
+current-next {v} {d} {i} {k} {t} h none-here =
     record {
       begun = h .begun;
       earlier = omega arith;
       last =
           λ p u l m b.
-          ⊎-elim (λ (e : p ≡ k). none-here u (subst (λ q. Begins r d q u) e b)) (λ (e : p < k). h .last p u l e b) (below-suc m);
+          ⊎-elim (λ (e : p ≡ k). none-here u (subst (λ q. Begins v d q u) e b)) (λ (e : p < k). h .last p u l e b) (below-suc m);
     }
 
-pub current-earlier : {r : Run} {d i k : ℕ} {t : Task} → Current r d i t k → (p : ℕ) → i < p → p ≤ k → Current r d i t p
+pub current-earlier : {v : View} {d i k : ℕ} {t : Task} → Current v d i t k → (p : ℕ) → i < p → p ≤ k → Current v d i t p
 current-earlier h p l m = record { begun = h .begun; earlier = l; last = λ q u a b. h .last q u a (omega arith) }
 
 -- a place has one operation
-pub current-unique : {r : Run} {d i j k : ℕ} {t u : Task} → Current r d i t k → Current r d j u k → (i ≡ j) × (t ≡ u)
-current-unique {r} {d} {i} {j} {k} {t} {u} h e =
+pub current-unique : {v : View} {d i j k : ℕ} {t u : Task} → Current v d i t k → Current v d j u k → (i ≡ j) × (t ≡ u)
+current-unique {v} {d} {i} {j} {k} {t} {u} h e =
     let same : i ≡ j = order (le-or-lt i j) (le-or-lt j i) in
-    (same, task (subst (λ p. Begins r d p t) same (h .begun)) (e .begun))
+    (same, task (subst (λ p. Begins v d p t) same (h .begun)) (e .begun))
   where
     order : (i ≤ j) ⊎ (j < i) → (j ≤ i) ⊎ (i < j) → i ≡ j
     order (inl a) (inl b) = omega arith
     order (inl a) (inr b) = absurd (h .last j u b (e .earlier) (e .begun))
     order (inr a) y = absurd (e .last i t a (h .earlier) (h .begun))
 
-    task : Begins r d j t → Begins r d j u → t ≡ u
+    task : Begins v d j t → Begins v d j u → t ≡ u
     task a b = cc
 
 -- an operation that ends stays the last one: its end is a hear
-pub current-ended : {r : Run} {d i k : ℕ} {t : Task} {x : Result} → Ends r d i t k x → Current r d i t (suc k)
-current-ended {r} {d} {i} {k} {t} {x} h = current-next (h .current) (λ u b. apart u (b .step) (h .step))
+pub current-ended : {v : View} {d i k : ℕ} {t : Task} {x : Result} → Ends v d i t k x → Current v d i t (suc k)
+current-ended {v} {d} {i} {k} {t} {x} h = current-next (h .current) (λ u b. apart u (b .step) (h .step))
   where
-    apart : (u : Task) {note m : ℕ} → nth (r .steps) k ≡ some (begin d u note) → nth (r .steps) k ≡ some (hear d m) → ⊥
+    apart : (u : Task) {note m : ℕ} → nth (v .steps) k ≡ some (begin d u note) → nth (v .steps) k ≡ some (hear d m) → ⊥
     apart u a b = let z : _≡_ {A = ℕ} 0 1 = cc in omega arith
 
 -- What holds at a place p of an operation holds at a later one k, if each step between them, which is no begin of the desk, keeps it.
-pub during : {r : Run} {d i : ℕ} {t : Task} (P : ℕ → Type 0) (p k : ℕ) → i < p → p ≤ k → Current r d i t k
-    → ((q : ℕ) → p ≤ q → Current r d i t q → NoBegin r d q → P q → P (suc q))
+pub during : {v : View} {d i : ℕ} {t : Task} (P : ℕ → Type 0) (p k : ℕ) → i < p → p ≤ k → Current v d i t k
+    → ((q : ℕ) → p ≤ q → Current v d i t q → NoBegin v d q → P q → P (suc q))
     → P p
     → P k
-during {r} {d} {i} {t} P p k l m h step start =
-    from-on (λ q. Current r d i t q → P q) p (λ e. start)
+during {v} {d} {i} {t} P p k l m h step start =
+    from-on (λ q. Current v d i t q → P q) p (λ e. start)
     (λ q n before e.
-    let now : Current r d i t q = current-earlier e q (omega arith) (omega arith) in
+    let now : Current v d i t q = current-earlier e q (omega arith) (omega arith) in
     step q n now (λ u. e .last q u (omega arith) (omega arith)) (before now))
     k
     m
@@ -114,20 +115,38 @@ begin-taken c s d t note =
 -- the begin of an operation with the task t that runs at place k
 pub record RunningFrom (r : Run) (d k : ℕ) (t : Task) : Type 0 where
   pub begun : ℕ
-  pub current : Current r d begun t k
+  pub current : Current (viewOf r) d begun t k
 
 -- the begin and the end of the operation whose result x is there at place k
 pub record EndedFrom (r : Run) (d k : ℕ) (x : Result) : Type 0 where
   pub begun : ℕ
   pub task : Task
   pub end : ℕ
-  pub current : Current r d begun task k
-  pub ends : Ends r d begun task end x
+  pub current : Current (viewOf r) d begun task k
+  pub ends : Ends (viewOf r) d begun task end x
   pub earlier : end < k
 
 -- no operation both runs and has ended
 pub running-ended : {a : Activity} {o : Operation} {x : Result} → a ≡ running o → a ≡ ended x → ⊥
 running-ended e f = let z : _≡_ {A = ℕ} 0 1 = cc in omega arith
+
+-- an operation that runs in phase 2, in which phase 1 chose g
+pub record PhaseTwo (a : Activity) (g : Register) : Type 0 where
+  pub operation : Operation
+  pub runs : a ≡ running operation
+  pub phase-two : operation .phase ≡ second g
+
+pub chosen-runs : (a : Activity) (g : Register) → chosenIn a ≡ some g → PhaseTwo a g
+chosen-runs idle g e = absurd (Option·none-ne-some g e)
+chosen-runs (running o) g e = record { operation = o; runs = refl; phase-two = by-phases (o .phase) e }
+  where
+    by-phases : (h : Phase) → by-phase h none (λ u. some u) ≡ some g → h ≡ second g
+    by-phases first f = absurd (Option·none-ne-some g f)
+    by-phases (second u) f = ap second (Option·some-injective u g f)
+chosen-runs (ended y) g e = absurd (Option·none-ne-some g e)
+
+pub runs-chosen : (a : Activity) (g : Register) → PhaseTwo a g → chosenIn a ≡ some g
+runs-chosen a g p = rw (p .runs, p .phase-two) refl
 
 abbrev Origin : Run → ℕ → ℕ → Activity → Type 0
 Origin r d k idle = Unit
@@ -138,7 +157,7 @@ module _ (c : Config) (steps : List Step) where
   abbrev r : Run
   r = runOf c steps
 
-  pub begins-is : (d k : ℕ) (t : Task) → Begins r d k t → Begun (deskAt r d k) t (deskAt r d (suc k))
+  pub begins-is : (d k : ℕ) (t : Task) → Begins (viewOf r) d k t → Begun (deskAt r d k) t (deskAt r d (suc k))
   unfolding at answerAt
   begins-is d k t b =
       subst (λ z. z .answer ≡ done → Begun (deskAt r d k) t (z .state .desks d))
@@ -147,29 +166,34 @@ module _ (c : Config) (steps : List Step) where
       (b .taken)
 
   -- no begin is accepted where an operation runs, nor where the desk stays as it is
-  pub busy : (d k : ℕ) (o : Operation) → deskAt r d k .activity ≡ running o → NoBegin r d k
+  pub busy : (d k : ℕ) (o : Operation) → deskAt r d k .activity ≡ running o → NoBegin (viewOf r) d k
   busy d k o e u b = subst Resting e (begins-is d k u b .rests)
 
-  pub unmoved : (d k : ℕ) → deskAt r d k ≡ deskAt r d (suc k) → NoBegin r d k
+  pub unmoved : (d k : ℕ) → deskAt r d k ≡ deskAt r d (suc k) → NoBegin (viewOf r) d k
   unmoved d k e u b = let f = begins-is d k u b in subst Resting (ap (λ y. y .activity) (e ∙ f .after)) (f .rests)
 
-  -- what a result call tells is the result of an operation that has ended
-  pub gives-ended : (d k : ℕ) (x : Result) → Gives r d k x → deskAt r d k .activity ≡ ended x
+  -- what a result call gives is the result of an operation that has ended
+  pub gives-ended : (d k : ℕ) (x : Result) → viewOf r .gives d k ≡ some x → deskAt r d k .activity ≡ ended x
   unfolding resultBy
   gives-ended d k x = by-activity (deskAt r d k .activity)
     where
-      by-activity : (a : Activity) → if-ended a (λ y. accept (told y) (deskAt r d k)) (refuse Refusal.Idle (deskAt r d k)) .answer ≡ told x
+      by-activity : (a : Activity)
+          → resultIn (if-ended a (λ y. accept (told y) (deskAt r d k)) (refuse Refusal.Idle (deskAt r d k)) .answer) ≡ some x
           → a ≡ ended x
-      by-activity idle e = absurd (false≢true (ap accepted e))
-      by-activity (running o) e = absurd (false≢true (ap accepted e))
-      by-activity (ended y) e = cc
+      by-activity idle e = absurd (Option·none-ne-some x e)
+      by-activity (running o) e = absurd (Option·none-ne-some x e)
+      by-activity (ended y) e = ap ended (Option·some-injective y x e)
 
-  pub ended-gives : (d k : ℕ) (x : Result) → deskAt r d k .activity ≡ ended x → Gives r d k x
+  pub ended-gives : (d k : ℕ) (x : Result) → deskAt r d k .activity ≡ ended x → viewOf r .gives d k ≡ some x
   unfolding resultBy
-  ended-gives d k x e = rw e
+  ended-gives d k x e = rw e refl
+
+  running-gives : (d k : ℕ) (o : Operation) → deskAt r d k .activity ≡ running o → viewOf r .gives d k ≡ none
+  unfolding resultBy
+  running-gives d k o e = rw e refl
 
   module _ (d k : ℕ) where
-    origin-next : (a : Activity) → NoBegin r d k → Origin r d k a → Origin r d (suc k) a
+    origin-next : (a : Activity) → NoBegin (viewOf r) d k → Origin r d k a → Origin r d (suc k) a
     origin-next idle n h = tt
     origin-next (running o) n h = record { begun = h .begun; current = current-next (h .current) n }
     origin-next (ended x) n h =
@@ -203,7 +227,7 @@ module _ (c : Config) (steps : List Step) where
                 current = from .current;
                 message = p;
                 step = s;
-                before = λ y g. running-ended e (gives-ended d k y g);
+                before = running-gives d k o e;
                 after = ended-gives d (suc k) x f;
               };
           earlier = omega arith;

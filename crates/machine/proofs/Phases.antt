@@ -4,17 +4,19 @@ use native.Mathlib.Omega.{arith}
 use mathlib.Core.Path.{_≡_, refl, sym, ap, _∙_, subst}
 use mathlib.Core.Logic.{⊎-elim}
 use mathlib.Core.Bool.{true}
+use mathlib.Core.Option.{Option·none-ne-some}
 use mathlib.Core.List.{List, _∷_}
 use Rattle.quorums.proofs.Tests.{le-or-lt}
 use Rattle.config.specs.declared.cluster.Config.{Config}
 use Rattle.machine.specs.Sets.{quorumOf}
 use Rattle.machine.specs.Parties.{Register, join, Message, Task, writes, first, second, Operation, Result, Activity, idle, running, ended, answered}
 use Rattle.machine.specs.Runs.{Step, Run, at}
-use Rattle.machine.specs.Operations.{deskAt, Current, Ends, Chose}
+use Rattle.machine.specs.Views.{Current, Ends, Chose}
+use Rattle.machine.specs.Seen.{deskAt, viewOf}
 use Rattle.machine.proofs.Lists.{In, nth-in}
 use Rattle.machine.proofs.Outcomes.{Hearing}
 use Rattle.machine.proofs.Desks.{runOf, desk-moved}
-use Rattle.machine.proofs.Performed.{NoBegin, during, running-ended, gives-ended, ended-gives, running-origin, current-unique}
+use Rattle.machine.proofs.Performed.{NoBegin, during, running-ended, gives-ended, ended-gives, running-origin, current-unique, chosen-runs}
 
 -- phase 2 with the register g, or its end
 abbrev pub Second : Register → Activity → Type 0
@@ -43,7 +45,7 @@ module _ (c : Config) (steps : List Step) where
   r = runOf c steps
 
   -- phase 2 stays, with its register, until the operation ends or is dropped
-  second-next : (d k : ℕ) (g : Register) → NoBegin r d k → Second g (deskAt r d k .activity) → Second g (deskAt r d (suc k) .activity)
+  second-next : (d k : ℕ) (g : Register) → NoBegin (viewOf r) d k → Second g (deskAt r d k .activity) → Second g (deskAt r d (suc k) .activity)
   second-next d k g n h =
       desk-moved c steps d k (λ a y. Second g (y .activity))
       (record {
@@ -62,30 +64,32 @@ module _ (c : Config) (steps : List Step) where
       apart : (o : Operation) → o .phase ≡ second g → o .phase ≡ first → ⊥
       apart o e f = let z : _≡_ {A = ℕ} 0 1 = cc in omega arith
 
-  pub phase-stays : {d i p k : ℕ} {t : Task} {o : Operation} {g : Register} → Current r d i t p → deskAt r d p .activity ≡ running o
+  pub phase-stays : {d i p k : ℕ} {t : Task} {o : Operation} {g : Register} → Current (viewOf r) d i t p → deskAt r d p .activity ≡ running o
       → o .phase ≡ second g
       → p ≤ k
-      → Current r d i t k
+      → Current (viewOf r) d i t k
       → Second g (deskAt r d k .activity)
   phase-stays {d} {i} {p} {k} {t} {o} {g} h e f m a =
       during (λ q. Second g (deskAt r d q .activity)) p k (h .earlier) m a (λ q l b n s. second-next d q g n s) (subst (Second g) (sym e) f)
 
   -- an operation chooses once
-  pub chose-unique : {d i : ℕ} {t : Task} {g h : Register} → Chose r d i t g → Chose r d i t h → g ≡ h
+  pub chose-unique : {d i : ℕ} {t : Task} {g h : Register} → Chose (viewOf r) d i t g → Chose (viewOf r) d i t h → g ≡ h
   chose-unique {d} {i} {t} {g} {h} a b =
       ⊎-elim (λ (l : a .place ≤ b .place). later a b l) (λ (l : b .place < a .place). sym (later b a (omega arith))) (le-or-lt (a .place) (b .place))
     where
-      later : {x y : Register} (u : Chose r d i t x) (v : Chose r d i t y) → u .place ≤ v .place → x ≡ y
+      later : {x y : Register} (u : Chose (viewOf r) d i t x) (v : Chose (viewOf r) d i t y) → u .place ≤ v .place → x ≡ y
       later {x} {y} u v l =
-          one (v .operation) (subst (Second x) (v .runs) (phase-stays (u .current) (u .runs) (u .phase-two) l (v .current))) (v .phase-two)
+          let a = chosen-runs (deskAt r d (u .place) .activity) x (u .phase-two) in
+          let b = chosen-runs (deskAt r d (v .place) .activity) y (v .phase-two) in
+          one (b .operation) (subst (Second x) (b .runs) (phase-stays (u .current) (a .runs) (a .phase-two) l (v .current))) (b .phase-two)
 
   -- ---- the end
 
-  pub ends-finish : {d i k : ℕ} {t : Task} {x : Result} → Ends r d i t k x → Finish r d k t x
+  pub ends-finish : {d i k : ℕ} {t : Task} {x : Result} → Ends (viewOf r) d i t k x → Finish r d k t x
   ends-finish {d} {i} {k} {t} {x} h =
       desk-moved c steps d k (λ a y. y .activity ≡ ended x → Finish r d k t x)
       (record {
-        still = λ e. absurd (h .before x (ended-gives c steps d k x e));
+        still = λ e. absurd (Option·none-ne-some x (sym (h .before) ∙ ended-gives c steps d k x e));
         begins = λ u note b l rests room e. absurd (running-ended refl e);
         drops = λ o f e. absurd (idle-ended e);
         restarts = λ p m o f i room e. absurd (running-ended refl e);

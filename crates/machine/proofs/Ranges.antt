@@ -13,12 +13,12 @@ use Rattle.config.specs.declared.cluster.Config.{Config}
 use Rattle.machine.specs.Parties.{Register, start, Replica, Message, write, valueOf, second, Operation, Result, running, ended, Desk}
 use Rattle.machine.specs.Calls.{mostValue}
 use Rattle.machine.specs.Runs.{Step, State, Run, at}
-use Rattle.machine.specs.Operations.{deskAt}
+use Rattle.machine.specs.Seen.{deskAt}
 use Rattle.machine.specs.Typed.{Bytes, Typed}
 use Rattle.machine.proofs.Lists.{In}
 use Rattle.machine.proofs.Moves.{Seated}
 use Rattle.machine.proofs.Desks.{runOf}
-use Rattle.machine.proofs.Performed.{running-origin, current-unique}
+use Rattle.machine.proofs.Performed.{running-origin, current-unique, chosen-runs}
 use Rattle.machine.proofs.Registers.{write-own}
 use Rattle.machine.proofs.Traces.{Written, Carries, by-server, by-desk, by-operation, by-result, by-message, traced}
 use Rattle.machine.proofs.Histories.{Closed}
@@ -77,16 +77,17 @@ module _ (c : Config) (steps : List Step) (typed : Typed steps) where
   -- a write's register has its desk's number and its bytes, and a stamp that was left
   written-range : (g : Register) → Written r g → RegisterRange c g
   written-range g w =
-      let o = w .chose .operation in
+      let two = chosen-runs (deskAt r (w .desk) (w .chose .place) .activity) g (w .chose .phase-two) in
+      let o = two .operation in
       let own = write-own c steps (w .desk) (w .begun) (w .bytes) g (w .chose) in
       let task : o .task ≡ write (w .bytes) =
-      current-unique (running-origin c steps (w .desk) (w .chose .place) o (w .chose .runs) .current) (w .chose .current) .1 in
+      current-unique (running-origin c steps (w .desk) (w .chose .place) o (two .runs) .current) (w .chose .current) .1 in
       let range : OperationRange c (at r (w .chose .place) .sent) (w .desk) (deskAt r (w .desk) (w .chose .place) .round) o =
-      subst (ActivityRange c (at r (w .chose .place) .sent) (w .desk) (deskAt r (w .desk) (w .chose .place) .round)) (w .chose .runs)
+      subst (ActivityRange c (at r (w .chose .place) .sent) (w .desk) (deskAt r (w .desk) (w .chose .place) .round)) (two .runs)
       (kept c steps typed (w .chose .place) .desks (w .desk) .activity) in
       let value : valueOf (o .task) ≡ g .value = ap valueOf task ∙ sym (own .1) in
       record {
-        tag = inr (own .2, range .stamp (w .bytes) g task (w .chose .phase-two), subst Seated (sym (own .0)) (range .seated));
+        tag = inr (own .2, range .stamp (w .bytes) g task (two .phase-two), subst Seated (sym (own .0)) (range .seated));
         short = subst (λ v. length v ≤ mostValue) value (range .short);
         bytes = subst Bytes value (range .bytes);
       }

@@ -11,13 +11,13 @@ use Rattle.config.specs.declared.cluster.Config.{Config}
 use Rattle.machine.specs.Parties.{Register, below, Replica, join, Task, write, Phase, first, second, Activity, idle, running, ended, Desk, Operation}
 use Rattle.machine.specs.Calls.{chosen}
 use Rattle.machine.specs.Runs.{Step, Run}
-use Rattle.machine.specs.Operations.{deskAt, Current, Chose}
-use Rattle.machine.specs.Clauses.{_≼_, SameTag}
+use Rattle.machine.specs.Views.{Current, Chose, _≼_, SameTag}
+use Rattle.machine.specs.Seen.{deskAt, viewOf}
 use Rattle.machine.proofs.Places.{from-on}
 use Rattle.machine.proofs.Tags.{tag-refl, tag-trans, tag-below, below-apart, write-above, chosen-above}
 use Rattle.machine.proofs.Joins.{join-left}
 use Rattle.machine.proofs.Desks.{runOf, desk-moved}
-use Rattle.machine.proofs.Performed.{NoBegin, during, begins-is}
+use Rattle.machine.proofs.Performed.{NoBegin, during, begins-is, chosen-runs}
 
 -- ---- what an operation chooses
 
@@ -78,7 +78,7 @@ module _ (c : Config) (steps : List Step) where
   -- ---- an operation from its begin on
 
   -- a step that begins no operation of desk d
-  going-kept : (d k : ℕ) (t : Task) (b : Register) → NoBegin r d k → Going d t b (deskAt r d k) → Going d t b (deskAt r d (suc k))
+  going-kept : (d k : ℕ) (t : Task) (b : Register) → NoBegin (viewOf r) d k → Going d t b (deskAt r d k) → Going d t b (deskAt r d (suc k))
   going-kept d k t b none g =
       let x = deskAt r d k in
       let runs : (o : Operation) → x .activity ≡ running o → Doing d t b (heldAt d k) (running o) =
@@ -110,34 +110,35 @@ module _ (c : Config) (steps : List Step) where
         ends = λ p m o y s h i q f. record { held = up (m .replica); doing = tt };
       })
 
-  current-going : (d i k : ℕ) (t : Task) → Current r d i t k → Going d t (heldAt d i) (deskAt r d k)
+  current-going : (d i k : ℕ) (t : Task) → Current (viewOf r) d i t k → Going d t (heldAt d i) (deskAt r d k)
   current-going d i k t n =
       during (λ p. Going d t (heldAt d i) (deskAt r d p)) (suc i) k (omega arith) (n .earlier) n (λ q l e none. going-kept d q t (heldAt d i) none)
       (subst (Going d t (heldAt d i)) (sym (begins-is c steps d i t (n .begun) .after)) (record { held = tag-refl (heldAt d i); doing = (refl, tt) }))
 
   -- what an operation chose was picked from a register held after its begin, and is no higher than the one held in phase 2
-  chose-in-phase : (d i : ℕ) (t : Task) (g : Register) (h : Chose r d i t g) → InPhase d t (heldAt d i) (heldAt d (h .place)) (second g)
+  chose-in-phase : (d i : ℕ) (t : Task) (g : Register) (h : Chose (viewOf r) d i t g) → InPhase d t (heldAt d i) (heldAt d (h .place)) (second g)
   chose-in-phase d i t g h =
-      let doing = subst (Doing d t (heldAt d i) (heldAt d (h .place))) (h .runs) (current-going d i (h .place) t (h .current) .doing) in
-      subst (InPhase d t (heldAt d i) (heldAt d (h .place))) (h .phase-two) (doing .1)
+      let two = chosen-runs (deskAt r d (h .place) .activity) g (h .phase-two) in
+      let doing = subst (Doing d t (heldAt d i) (heldAt d (h .place))) (two .runs) (current-going d i (h .place) t (h .current) .doing) in
+      subst (InPhase d t (heldAt d i) (heldAt d (h .place))) (two .phase-two) (doing .1)
 
-  pub chose-picked : (d i : ℕ) (t : Task) (g : Register) → Chose r d i t g → Picked d t (heldAt d i) g
+  pub chose-picked : (d i : ℕ) (t : Task) (g : Register) → Chose (viewOf r) d i t g → Picked d t (heldAt d i) g
   chose-picked d i t g h = chose-in-phase d i t g h .0
 
-  pub chose-held : (d i : ℕ) (t : Task) (g : Register) (h : Chose r d i t g) → g ≼ heldAt d (h .place)
+  pub chose-held : (d i : ℕ) (t : Task) (g : Register) (h : Chose (viewOf r) d i t g) → g ≼ heldAt d (h .place)
   chose-held d i t g h = chose-in-phase d i t g h .1
 
   -- ---- writes
 
   -- a write's register has its desk's number and its bytes, and is no start
-  pub write-own : (d i : ℕ) (v : List ℕ) (g : Register) → Chose r d i (write v) g → (g .desk ≡ d) × (g .value ≡ v) × (1 ≤ g .stamp)
+  pub write-own : (d i : ℕ) (v : List ℕ) (g : Register) → Chose (viewOf r) d i (write v) g → (g .desk ≡ d) × (g .value ≡ v) × (1 ≤ g .stamp)
   write-own d i v g h =
       let p = chose-picked d i (write v) g h in
       let s : g .stamp ≡ suc (p .held .stamp) = ap (λ y. y .stamp) (p .is) in
       (ap (λ y. y .desk) (p .is), ap (λ y. y .value) (p .is), omega arith)
 
   -- a write's tag is above that of every operation that its desk began before
-  pub writes-rise : (d i j : ℕ) (t : Task) (v : List ℕ) (g h : Register) → i < j → Chose r d i t g → Chose r d j (write v) h → below g h ≡ true
+  pub writes-rise : (d i j : ℕ) (t : Task) (v : List ℕ) (g h : Register) → i < j → Chose (viewOf r) d i t g → Chose (viewOf r) d j (write v) h → below g h ≡ true
   writes-rise d i j t v g h l a b =
       let p = chose-picked d j (write v) h b in
       let before : a .place ≤ j =
@@ -147,11 +148,11 @@ module _ (c : Config) (steps : List Step) where
       subst (λ y. below g y ≡ true) (sym (p .is)) (tag-below g (p .held) _ low (write-above d v (p .held)))
 
   -- two writes with one tag are one
-  pub write-once : (d i e j : ℕ) (v w : List ℕ) (g h : Register) → Chose r d i (write v) g → Chose r e j (write w) h → SameTag g h
+  pub write-once : (d i e j : ℕ) (v w : List ℕ) (g h : Register) → Chose (viewOf r) d i (write v) g → Chose (viewOf r) e j (write w) h → SameTag g h
       → (d ≡ e) × (i ≡ j)
   write-once d i e j v w g h a b s =
       let same : d ≡ e = sym (write-own d i v g a .0) ∙ s .1 ∙ write-own e j w h b .0 in
-      let own : Chose r d j (write w) h = subst (λ y. Chose r y j (write w) h) (sym same) b in (
+      let own : Chose (viewOf r) d j (write w) h = subst (λ y. Chose (viewOf r) y j (write w) h) (sym same) b in (
         same,
         ⊎-elim
             (λ (l : i ≤ j).

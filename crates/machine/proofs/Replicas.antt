@@ -1,11 +1,11 @@
 -- Good replicas stay good: joined, with a higher register, and while the history grows.
 use mathlib.Core.Path.{_≡_}
-use mathlib.Core.Logic.{_⊎_, inr, ⊎-elim}
+use mathlib.Core.Logic.{inr, ⊎-elim}
 use mathlib.Core.Bool.{true}
 use mathlib.Core.List.{_∷_}
 use Rattle.machine.specs.Sets.{Transfer, Transfers, has}
-use Rattle.machine.specs.Parties.{Register, higher, Replica, fresh, join}
-use Rattle.machine.specs.Clauses.{_≼_}
+use Rattle.machine.specs.Parties.{Register, Replica, fresh, join}
+use Rattle.machine.specs.Views.{_≼_}
 use Rattle.machine.proofs.Tags.{tag-trans, higher-left, higher-right}
 use Rattle.machine.proofs.Sets.{has-none, union-either}
 use Rattle.machine.proofs.Histories.{Gift, History, Carried, Good}

@@ -12,7 +12,7 @@ use Rattle.machine.specs.Sets.{has, includes}
 use Rattle.machine.specs.Parties.{Replica, join, share, Message, Desk}
 use Rattle.machine.specs.Calls.{done, accept, replyTo, served, requestOf}
 use Rattle.machine.specs.Runs.{machine, Step, State, put, nth, nothing, take, afterDesk, Run, at}
-use Rattle.machine.specs.Operations.{deskAt}
+use Rattle.machine.specs.Seen.{deskAt}
 use Rattle.machine.proofs.Lists.{In, each-append, each-one, nth-in}
 use Rattle.machine.proofs.Branches.{when-cases}
 use Rattle.machine.proofs.Sets.{union-included}

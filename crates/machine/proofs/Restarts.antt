@@ -5,7 +5,7 @@ use native.Mathlib.Omega.{arith}
 use mathlib.Core.Path.{_≡_, refl, sym, ap, _∙_, subst}
 use mathlib.Core.Bool.{Bool, true, false, cond, false≢true}
 use mathlib.Core.List.{List}
-use mathlib.Core.Option.{some}
+use mathlib.Core.Option.{none, some, Option·none-ne-some}
 use borrow.Author.Tests.{lt-ltb, le-ltb}
 use lib.Dec.{ltb}
 use lib.ListN.{length, length-append}
@@ -16,10 +16,10 @@ use Rattle.format.proofs.Marks.{stands-pos, stands-most}
 use Rattle.config.specs.declared.cluster.Config.{Config}
 use Rattle.machine.specs.Sets.{Transfer, Transfers, has, includes, missing, union}
 use Rattle.machine.specs.Parties.{Message, join, Task, Operation, Result, Activity, idle, running, ended, Desk}
-use Rattle.machine.specs.Calls.{Answer, unmade, late, refused, done, wrote, told}
-use Rattle.machine.specs.Runs.{Step, result, nth, Made, nothing, Run, at, answerAt}
-use Rattle.machine.specs.Operations.{deskAt, Current, Ends, accepted, brings, brought, firstBrought, restartsMade, gain}
-use Rattle.machine.specs.Clauses.{Told, Restarts}
+use Rattle.machine.specs.Calls.{Answer, unmade, done, wrote, told}
+use Rattle.machine.specs.Runs.{Step, result, nth, Made, Run, at, answerAt}
+use Rattle.machine.specs.Views.{Current, Ends, restartsMade, gain, Told, Restarts}
+use Rattle.machine.specs.Seen.{deskAt, resultIn, accepted, brings, brought, firstBrought, viewOf}
 use Rattle.machine.proofs.Branches.{when-cases}
 use Rattle.machine.proofs.Sets.{has-append, has-union, missing-none, missing-some, missing-same}
 use Rattle.machine.proofs.Moves.{moved}
@@ -34,15 +34,6 @@ brings-more a b e = stands-pos (length (missing a b)) (missing-some a b e)
 brings-none : (a b : Transfers) → includes a b ≡ true → stands (length (missing a b)) ≡ 0
 unfolding stands
 brings-none a b e = ap (λ l. stands (length l)) (missing-none a b e)
-
--- whether an answer tells a result
-abbrev pub tells : Answer → Bool
-tells unmade = false
-tells late = false
-tells (refused k) = false
-tells done = false
-tells (wrote k) = false
-tells (told x) = true
 
 -- the counter of the operation that runs, or of its result, is n
 abbrev Counts : ℕ → Activity → Type 0
@@ -77,7 +68,7 @@ module _ (c : Config) (steps : List Step) where
       nothing-new false = refl
 
   -- the set has what the hears brought
-  held : (d k : ℕ) (t : Transfer) → has (brought r d k) t ≡ has (deskAt r d k .replica .set) t
+  pub held : (d k : ℕ) (t : Transfer) → has (brought r d k) t ≡ has (deskAt r d k .replica .set) t
   unfolding brought at has
   held d zero t = refl
   held d (suc k) t = rw (has-append (brought r d k) (brings r d k) t, held d k t) (sym (held-next d k t))
@@ -93,7 +84,7 @@ module _ (c : Config) (steps : List Step) where
       rw (lt-ltb i k l) (ap (λ a. stands (length a)) (missing-same (brought r d k) (deskAt r d k .replica .set) (brings r d k) (held d k)))
 
   -- a restart counts one, any other step of the operation nothing
-  counts-next : (d k n : ℕ) → NoBegin r d k → Counts n (deskAt r d k .activity)
+  counts-next : (d k n : ℕ) → NoBegin (viewOf r) d k → Counts n (deskAt r d k .activity)
       → Counts (n + stands (length (missing (deskAt r d k .replica .set) (brings r d k)))) (deskAt r d (suc k) .activity)
   unfolding missing stands
   counts-next d k n none-here h =
@@ -118,14 +109,14 @@ module _ (c : Config) (steps : List Step) where
           → o .restarts ≡ n + stands (length (missing (deskAt r d k .replica .set) (m .replica .set)))
       goes-on o m e i = omega (arith, so-far o e, brings-none (deskAt r d k .replica .set) (m .replica .set) i)
 
-  counts-first : (d i : ℕ) (t : Task) → Current r d i t (suc i) → Counts (sum (suc i) (counted d i)) (deskAt r d (suc i) .activity)
+  counts-first : (d i : ℕ) (t : Task) → Current (viewOf r) d i t (suc i) → Counts (sum (suc i) (counted d i)) (deskAt r d (suc i) .activity)
   counts-first d i t h =
       let b = begins-is c steps d i t (h .begun) in
       subst (λ (y : Desk). Counts (sum (suc i) (counted d i)) (y .activity)) (sym (b .after))
       (sym (sum-zero (suc i) (counted d i) (λ p l. rw (le-ltb i p (omega arith)))))
 
   -- the counter is the sum of the places so far
-  counts : (d i k : ℕ) (t : Task) → Current r d i t k → Counts (sum k (counted d i)) (deskAt r d k .activity)
+  counts : (d i k : ℕ) (t : Task) → Current (viewOf r) d i t k → Counts (sum k (counted d i)) (deskAt r d k .activity)
   counts d i k t h =
       during (λ q. Counts (sum q (counted d i)) (deskAt r d q .activity)) (suc i) k (omega arith) (h .earlier) h
       (λ q l a n e.
@@ -133,12 +124,12 @@ module _ (c : Config) (steps : List Step) where
       (counts-next d q (sum q (counted d i)) n e))
       (counts-first d i t (current-earlier h (suc i) (omega arith) (h .earlier)))
 
-  made : (d i k : ℕ) (t : Task) (x : Result) → Ends r d i t k x → x .restarts ≡ restartsMade r d i k
+  made : (d i k : ℕ) (t : Task) (x : Result) → Ends (viewOf r) d i t k x → x .restarts ≡ restartsMade (viewOf r) d i k
   unfolding restartsMade
   made d i k t x h =
       subst (Counts (sum (suc k) (counted d i))) (gives-ended c steps d (suc k) x (h .after)) (counts d i (suc k) t (current-ended h))
 
-  gained : (d i k : ℕ) → restartsMade r d i k ≤ gain r d i k
+  gained : (d i k : ℕ) → restartsMade (viewOf r) d i k ≤ gain (viewOf r) d i k
   unfolding restartsMade gain
   gained d i k =
       sum-le (suc k) (counted d i) (λ p. cond (ltb i p) (length (firstBrought r d p)) 0)
@@ -163,7 +154,7 @@ module _ (c : Config) (steps : List Step) where
   union-size a b = length-append a (missing a b)
 
   -- a desk's set grows by what it lacked of what a step brings
-  size-next : (d k : ℕ)
+  pub size-next : (d k : ℕ)
       → length (deskAt r d (suc k) .replica .set) ≡ length (deskAt r d k .replica .set) + length (missing (deskAt r d k .replica .set) (brings r d k))
   unfolding join missing
   size-next d k =
@@ -179,7 +170,7 @@ module _ (c : Config) (steps : List Step) where
         ends = λ p m o g s f i q z. union-size (deskAt r d k .replica .set) (m .replica .set);
       })
 
-  sizes : (d i k : ℕ) (t : Task) → Current r d i t k
+  sizes : (d i k : ℕ) (t : Task) → Current (viewOf r) d i t k
       → length (deskAt r d i .replica .set) + sum k (gains d i) ≡ length (deskAt r d k .replica .set)
   sizes d i k t h =
       during (λ q. length (deskAt r d i .replica .set) + sum q (gains d i) ≡ length (deskAt r d q .replica .set)) (suc i) k (omega arith) (h .earlier) h
@@ -187,20 +178,20 @@ module _ (c : Config) (steps : List Step) where
       (let none : sum (suc i) (gains d i) ≡ 0 = sum-zero (suc i) (gains d i) (λ p l. rw (le-ltb i p (omega arith))) in
       omega (arith, ap (λ y. length (y .replica .set)) (begins-is c steps d i t (h .begun) .after)))
 
-  growth : (d i k : ℕ) (t : Task) (x : Result) → Ends r d i t k x
-      → length (deskAt r d i .replica .set) + gain r d i k ≡ length (deskAt r d (suc k) .replica .set)
+  growth : (d i k : ℕ) (t : Task) (x : Result) → Ends (viewOf r) d i t k x
+      → length (deskAt r d i .replica .set) + gain (viewOf r) d i k ≡ length (deskAt r d (suc k) .replica .set)
   unfolding gain
   growth d i k t x h = sizes d i (suc k) t (current-ended h)
 
   -- ---- results told
 
   -- only a result call tells, at a desk whose operation has ended
-  reported : (q : ℕ) (x : Result) → answerAt r q ≡ told x → Told r q x
+  reported : (q : ℕ) (x : Result) → answerAt r q ≡ told x → Told (viewOf r) q x
   unfolding answerAt
   reported q x =
-      when-cases (λ (z : Made). z .answer ≡ told x → Told r q x) (nth steps q) _ _ (apart unmade refl)
+      when-cases (λ (z : Made). z .answer ≡ told x → Told (viewOf r) q x) (nth steps q) _ _ (apart unmade refl)
       (λ st s.
-      moved c (at r q) (λ h z. z .answer ≡ told x → Told r q x) st
+      moved c (at r q) (λ h z. z .answer ≡ told x → Told (viewOf r) q x) st
       (record {
         still = λ a e f. absurd (false≢true (sym e ∙ ap accepted f));
         tells = λ d y e at f g. told-by d (s ∙ ap some e) (f ∙ ap ended (told-is y g));
@@ -221,7 +212,7 @@ module _ (c : Config) (steps : List Step) where
       told-is : (y : Result) → told y ≡ told x → y ≡ x
       told-is y e = cc
 
-      told-by : (d : ℕ) → nth steps q ≡ some (result d) → deskAt r d q .activity ≡ ended x → Told r q x
+      told-by : (d : ℕ) → nth steps q ≡ some (result d) → deskAt r d q .activity ≡ ended x → Told (viewOf r) q x
       told-by d s e =
           let from = ended-origin c steps d q x e in
           record {
@@ -235,8 +226,8 @@ module _ (c : Config) (steps : List Step) where
             earlier = from .earlier;
           }
 
-      apart : (a : Answer) → tells a ≡ false → a ≡ told x → Told r q x
-      apart a e f = absurd (false≢true (sym e ∙ ap tells f))
+      apart : (a : Answer) → resultIn a ≡ none → a ≡ told x → Told (viewOf r) q x
+      apart a e f = absurd (Option·none-ne-some x (sym e ∙ ap resultIn f))
 
-pub restarts : (c : Config) (steps : List Step) → Restarts (runOf c steps)
+pub restarts : (c : Config) (steps : List Step) → Restarts (viewOf (runOf c steps))
 restarts c steps = record { reported = reported c steps; made = made c steps; gained = gained c steps; growth = growth c steps }

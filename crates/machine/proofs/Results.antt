@@ -5,18 +5,23 @@ use mathlib.Core.List.{List}
 use Rattle.config.specs.declared.cluster.Config.{Config}
 use Rattle.machine.specs.Parties.{Task, Result}
 use Rattle.machine.specs.Runs.{Step}
-use Rattle.machine.specs.Operations.{Ends, Chose}
-use Rattle.machine.specs.Clauses.{Results}
+use Rattle.machine.specs.Views.{Ends, Chose, Results}
+use Rattle.machine.specs.Seen.{viewOf}
 use Rattle.machine.proofs.Desks.{runOf}
 use Rattle.machine.proofs.Phases.{chose-unique, ends-finish}
+use Rattle.machine.proofs.Performed.{runs-chosen}
 
 module _ (c : Config) (steps : List Step) where
-  pub ends-chose : {d i k : ℕ} {t : Task} {x : Result} → Ends (runOf c steps) d i t k x → Chose (runOf c steps) d i t (x .register)
+  pub ends-chose : {d i k : ℕ} {t : Task} {x : Result} → Ends (viewOf (runOf c steps)) d i t k x → Chose (viewOf (runOf c steps)) d i t (x .register)
   ends-chose {k = k} h =
       let f = ends-finish c steps h in
-      record { place = k; current = h .current; operation = f .operation; runs = f .hearing .runs; phase-two = f .phase-two }
+      record {
+        place = k;
+        current = h .current;
+        phase-two = runs-chosen _ _ (record { operation = f .operation; runs = f .hearing .runs; phase-two = f .phase-two });
+      }
 
-  pub results : Results (runOf c steps)
+  pub results : Results (viewOf (runOf c steps))
   results =
       record {
         kind = λ d i k t x h. ends-finish c steps h .kind;

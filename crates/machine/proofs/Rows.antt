@@ -3,7 +3,7 @@
 use Prim.Native.Nat.{ℕ, _≤_, _<_, max}
 use native.Mathlib.Omega.{arith}
 use mathlib.Core.Path.{_≡_, refl, _∙_}
-use mathlib.Core.Logic.{_⊎_, ⊎-elim, _↔_}
+use mathlib.Core.Logic.{⊎-elim, _↔_}
 use mathlib.Core.Bool.{Bool, true, false, cond}
 use borrow.Author.Tests.{eqb-true}
 use lib.Dec.{eqb}
@@ -20,6 +20,7 @@ pub record Agree (a b : Transfers) (i : ℕ) : Type 0 where
   -- the row with the larger count has every transfer of the other: no cell is smaller in it, and at equal counts all are equal
   pub whole : count a i ≤ count b i → AllOf i a b
   pub grows : (j : ℕ) → count a i ≤ count b i → cell a i j ≤ cell b i j
+  pub shrinks : (j : ℕ) → count b i ≤ count a i → cell b i j ≤ cell a i j
   pub equal : (j : ℕ) → count a i ≡ count b i → cell a i j ≡ cell b i j
   -- the union has that row
   pub counts : count (union a b) i ≡ max (count a i) (count b i)
@@ -72,6 +73,7 @@ module _ {n f : ℕ} {w : ℕ → ℕ} {h : History} (law : Lawfully n f w h) {a
       record {
         whole = count-part law c d i;
         grows = λ j l. cell-part a b (c .once) i j (count-part law c d i l);
+        shrinks = λ j l. cell-part b a (d .once) i j (count-part law d c i l);
         equal = λ j e. row-same a b (c .once) (d .once) i (count-part law c d i (omega arith)) (count-part law d c i (omega arith)) .1 j;
         counts =
             ⊎-elim (λ (l : count a i ≤ count b i). omega (arith, right l .0))

@@ -23,7 +23,7 @@ use Rattle.machine.specs.Sets.{Transfers, has, union, tally, count, give
 use Rattle.machine.specs.Parties.{Replica, join, Message}
 use Rattle.machine.specs.Calls.{mostCount, refused, done, accept, refuse, given-away, transferBy}
 use Rattle.machine.specs.Runs.{machine, Step, transfer, State, put, nth, when, nothing, take, Run, at, answerAt}
-use Rattle.machine.specs.Operations.{accepted}
+use Rattle.machine.specs.Seen.{accepted}
 use Rattle.machine.specs.Clauses.{Found}
 use Rattle.machine.proofs.Lists.{nth-in}
 use Rattle.machine.proofs.Branches.{when-cases}

@@ -11,7 +11,7 @@ use Rattle.machine.specs.Sets.{Transfers, has}
 use Rattle.machine.specs.Parties.{Register, Replica, request, reply, share, Message, Server}
 use Rattle.machine.specs.Calls.{Answer, accept, replyTo, served}
 use Rattle.machine.specs.Runs.{State, afterServer, afterCrash, put}
-use Rattle.machine.specs.Clauses.{_≼_}
+use Rattle.machine.specs.Views.{_≼_}
 use Rattle.machine.proofs.Lists.{In, in-either, in-one, each-append}
 use Rattle.machine.proofs.Outcomes.{shareOf}
 use Rattle.machine.proofs.Tags.{tag-refl, tag-trans}

@@ -10,7 +10,7 @@ use lib.Dec.{eqb, ltb}
 use Rattle.quorums.proofs.Tests.{le-or-lt}
 use Rattle.machine.specs.Parties.{Register, below, higher, Task, read, write}
 use Rattle.machine.specs.Calls.{chosen}
-use Rattle.machine.specs.Clauses.{_≼_, SameTag}
+use Rattle.machine.specs.Views.{_≼_, SameTag}
 use Rattle.machine.proofs.Branches.{branch}
 
 -- ---- the order, in numbers

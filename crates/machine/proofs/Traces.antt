@@ -9,12 +9,13 @@ use Rattle.config.specs.declared.cluster.Config.{Config}
 use Rattle.machine.specs.Parties.{Register, start, join, Message, Server, write, Phase, first, second, Operation, Result, Activity, idle, running, ended, Desk}
 use Rattle.machine.specs.Calls.{chosen, served}
 use Rattle.machine.specs.Runs.{machine, Step, State, put, nth, nothing, take, Run, at}
-use Rattle.machine.specs.Operations.{deskAt, Current, Chose}
+use Rattle.machine.specs.Views.{Current, Chose}
+use Rattle.machine.specs.Seen.{deskAt, viewOf}
 use Rattle.machine.proofs.Lists.{In, each-append, each-one, nth-in}
 use Rattle.machine.proofs.Branches.{when-cases, task-cases}
 use Rattle.machine.proofs.Moves.{moved}
 use Rattle.machine.proofs.Desks.{runOf, put-cases, desk-moved}
-use Rattle.machine.proofs.Performed.{running-origin}
+use Rattle.machine.proofs.Performed.{running-origin, runs-chosen}
 use Rattle.machine.proofs.Joins.{join-either}
 
 -- a write of the list chose g
@@ -22,7 +23,7 @@ pub record Written (r : Run) (g : Register) : Type 0 where
   pub desk : ℕ
   pub begun : ℕ
   pub bytes : List ℕ
-  pub chose : Chose r desk begun (write bytes) g
+  pub chose : Chose (viewOf r) desk begun (write bytes) g
 
 -- g is the start or a write's
 abbrev pub Traced : Run → Register → Type 0
@@ -130,10 +131,8 @@ module _ (c : Config) (steps : List Step) where
         chose =
             record {
               place = k;
-              current = subst (λ t. Current r d (from .begun) t k) e (from .current);
-              operation = o;
-              runs = runs;
-              phase-two = f;
+              current = subst (λ t. Current (viewOf r) d (from .begun) t k) e (from .current);
+              phase-two = runs-chosen (deskAt r d k .activity) _ (record { operation = o; runs = runs; phase-two = f });
             };
       }))
       second-phase

@@ -8,16 +8,16 @@ use mathlib.Core.List.{List}
 use Rattle.config.specs.declared.cluster.Config.{Config}
 use Rattle.machine.specs.Parties.{Register, start, write}
 use Rattle.machine.specs.Runs.{Step, Run}
-use Rattle.machine.specs.Operations.{Begins, Chose}
-use Rattle.machine.specs.Clauses.{SameTag, Source, Values}
+use Rattle.machine.specs.Views.{View, Begins, Chose, SameTag, Source, Values}
+use Rattle.machine.specs.Seen.{deskAt, viewOf}
 use Rattle.machine.proofs.Desks.{runOf}
-use Rattle.machine.proofs.Performed.{gives-ended}
+use Rattle.machine.proofs.Performed.{gives-ended, chosen-runs}
 use Rattle.machine.proofs.Registers.{write-own, write-once}
 use Rattle.machine.proofs.Traces.{Written, Traced, Carries, by-operation, by-result, traced}
 
 -- a begin is given one list of bytes
-same-bytes : {r : Run} {d e i j : ℕ} {v w : List ℕ} → Begins r d i (write v) → Begins r e j (write w) → i ≡ j → v ≡ w
-same-bytes a b same = cc
+same-bytes : {v : View} {d e i j : ℕ} {a b : List ℕ} → Begins v d i (write a) → Begins v e j (write b) → i ≡ j → a ≡ b
+same-bytes p q same = cc
 
 -- tag and value are all of a register
 same-register : (g h : Register) → SameTag g h → g .value ≡ h .value → g ≡ h
@@ -57,7 +57,7 @@ module _ (c : Config) (steps : List Step) where
 
   -- ---- what a read returns
 
-  source : (g : Register) → Traced r g → Source r g (g .value)
+  source : (g : Register) → Traced r g → Source (viewOf r) g (g .value)
   source g (inl e) = inl (ap (λ y. y .stamp) e, ap (λ y. y .desk) e, ap (λ y. y .value) e)
   source g (inr w) =
       inr
@@ -65,15 +65,18 @@ module _ (c : Config) (steps : List Step) where
         desk = w .desk;
         begun = w .begun;
         register = g;
-        chose = subst (λ v. Chose r (w .desk) (w .begun) (write v) g) (sym (written-value g w)) (w .chose);
+        chose = subst (λ v. Chose (viewOf r) (w .desk) (w .begun) (write v) g) (sym (written-value g w)) (w .chose);
         tag = (refl, refl);
         only = λ e j v h p s. write-once c steps e j (w .desk) (w .begun) v (w .bytes) h g p (w .chose) s;
       })
 
-  pub values : Values r
+  pub values : Values (viewOf r)
   values =
       record {
-        source = λ d i g h. source g (traced c steps (h .place) g (by-operation d (h .operation) (h .runs) (h .phase-two)));
+        source =
+            λ d i g h.
+            let two = chosen-runs (deskAt r d (h .place) .activity) g (h .phase-two) in
+            source g (traced c steps (h .place) g (by-operation d (two .operation) (two .runs) (two .phase-two)));
         returned =
             λ d i k x h.
             let is = gives-ended c steps d (suc k) x (h .after) in

@@ -3,7 +3,7 @@
 use Prim.Native.Nat.{ℕ, zero, suc, _≤_, _<_, _^_}
 use native.Mathlib.Omega.{arith}
 use mathlib.Core.Path.{_≡_, refl, sym, ap, _∙_, subst}
-use mathlib.Core.Logic.{_⊎_, ⊎-elim}
+use mathlib.Core.Logic.{⊎-elim}
 use mathlib.Core.Bool.{false}
 use mathlib.Core.List.{List, [], _∷_, _++_}
 use mathlib.Core.Option.{some, Option·none-ne-some, Option·some-injective}
@@ -55,15 +55,6 @@ ActivityRange c sent d round (ended y) = ResultRange round y
 pub record WorkRange (c : Config) (sent : List Message) (d : ℕ) (x : Desk) : Type 0 where
   pub round : x .round ≤ mostRound
   pub activity : ActivityRange c sent d (x .round) (x .activity)
-
--- no operation and no result at round 0
-pub idle-at-zero : (c : Config) (sent : List Message) (d : ℕ) (x : Desk) → WorkRange c sent d x → x .round ≡ 0 → x .activity ≡ idle
-idle-at-zero c sent d x w e = by-activity (x .activity) (w .activity)
-  where
-    by-activity : (a : Activity) → ActivityRange c sent d (x .round) a → a ≡ idle
-    by-activity idle r = refl
-    by-activity (running o) r = absurd (omega (arith, r .begun))
-    by-activity (ended y) r = absurd (omega (arith, r .begun))
 
 -- ---- more messages
 

@@ -2,11 +2,11 @@
 -- is brought down to tests that compute.
 use Prim.Native.Nat.{ℕ, zero, suc, _<_}
 use native.Mathlib.Omega.{arith}
-use mathlib.Core.Path.{_≡_, refl}
-use mathlib.Core.Bool.{Bool, true, false, cond, not}
+use mathlib.Core.Path.{_≡_, refl, sym, ap, _∙_}
+use mathlib.Core.Bool.{Bool, true, false, cond, not, false≢true}
 use mathlib.Core.List.{List, [], _∷_}
-use mathlib.Core.Option.{Option, none, some}
-use borrow.Author.Tests.{ltb-true, lt-ltb, eq-eqb, not-true}
+use mathlib.Core.Option.{none, some, Option·none-ne-some}
+use borrow.Author.Tests.{ltb-true, lt-ltb, eq-eqb}
 use lib.Dec.{eqb, ltb}
 use lib.ListN.{length}
 use Rattle.quorums.specs.Sum.{sum, sumℤ, sumIn, size, all}
@@ -17,11 +17,11 @@ use Rattle.config.specs.Cluster.{validOf, startOf, totalOf, aboveOf, stampBytes
 use Rattle.format.specs.Bytes.{bytes, number, series, stands, marks, bit}
 use Rattle.format.specs.Table.{registerMark, register, cellMap, cells, rowMark, row, rowMap, rows, sheet, fieldMap, fieldMapOf, head, note, encodeFields}
 use Rattle.machine.specs.Sets.{same, has, includes, missing, union, tally, count, cell, given, received, weightOf, quorumOf}
-use Rattle.machine.specs.Parties.{below, higher, join, bytesOf, answered, Register, Task, by-phase, Activity, idle, running, ended, Operation, Result, Phase, first, second}
-use Rattle.machine.specs.Calls.{Answer, done, told, send, transferBy, shareBy, serveBy, answerRequest, beginBy, askBy, hearBy, restart, choose, mark, resultBy, dropBy}
+use Rattle.machine.specs.Parties.{below, higher, join, bytesOf, answered, Register, Task, Result}
+use Rattle.machine.specs.Calls.{done, send, transferBy, shareBy, serveBy, answerRequest, beginBy, askBy, hearBy, restart, choose, mark, resultBy, dropBy}
 use Rattle.machine.specs.Runs.{Step, begin, ask, serve, hear, result, drop, transfer, share, crash, nth, when, onServer, onDesk, onCrash, take, Run, at, answerAt}
-use Rattle.machine.proofs.Restarts.{tells}
-use Rattle.machine.specs.Operations.{deskAt, Current, Gives, Ends, Chose, brings, brought, restartsMade, gain}
+use Rattle.machine.specs.Views.{Current, Ends, Chose, restartsMade, gain}
+use Rattle.machine.specs.Seen.{brings, brought, viewOf}
 
 -- all that a run computes through
 unfoldable pub computing : Unit {0}
@@ -50,7 +50,7 @@ abbrev pub quiet : List Step → ℕ → ℕ → ℕ → Bool
 quiet l d i k = all k (λ p. cond (ltb i p) (when (nth l p) true (λ s. not (begunBy d s))) true)
 
 current-of : (r : Run) (d i : ℕ) (t : Task) (k noted : ℕ)
-    → nth (r .steps) i ≡ some (begin d t noted) → answerAt r i ≡ done → ltb i k ≡ true → quiet (r .steps) d i k ≡ true → Current r d i t k
+    → nth (r .steps) i ≡ some (begin d t noted) → answerAt r i ≡ done → ltb i k ≡ true → quiet (r .steps) d i k ≡ true → Current (viewOf r) d i t k
 current-of r d i t k noted s a l q =
     record {
       begun = record { note = noted; step = s; taken = a };
@@ -68,61 +68,29 @@ current-of r d i t k noted s a l q =
 
 -- ---- the end of an operation, and the register that it chose
 
--- an answer that tells none is no told result
-pub not-told : (a : Answer) (x : Result) → tells a ≡ false → a ≡ told x → ⊥
-not-told a x n e =
-    let y : true ≡ false = rw e at n in
-    let z : _≡_ {A = ℕ} 0 1 = cc in
-    absurd (omega arith)
-
 -- desk d begins t at place i, with a note, and nothing after it before place k, where it hears a message, has no result before and x after
 pub ends-of : (r : Run) (d i : ℕ) (t : Task) (k : ℕ) (x : Result) (noted message : ℕ)
     → nth (r .steps) i ≡ some (begin d t noted) → answerAt r i ≡ done → ltb i k ≡ true → quiet (r .steps) d i k ≡ true
-    → nth (r .steps) k ≡ some (hear d message) → tells (r .store .result (deskAt r d k) .answer) ≡ false → Gives r d (suc k) x → Ends r d i t k x
+    → nth (r .steps) k ≡ some (hear d message) → viewOf r .gives d k ≡ none → viewOf r .gives d (suc k) ≡ some x → Ends (viewOf r) d i t k x
 ends-of r d i t k x noted message s a l q h n g =
-    record {
-      current = current-of r d i t k noted s a l q;
-      message = message;
-      step = h;
-      before = λ y. not-told (r .store .result (deskAt r d k) .answer) y n;
-      after = g;
-    }
-
--- the register of phase 2
-abbrev pub inPhase : Phase → Option Register
-inPhase p = by-phase p none some
-
-abbrev pub inActivity : Activity → Option Register
-inActivity idle = none
-inActivity (running o) = inPhase (o .phase)
-inActivity (ended x) = none
+    record { current = current-of r d i t k noted s a l q; message = message; step = h; before = n; after = g }
 
 -- desk d begins t at place i, with a note, and nothing after it before place k, where it is in phase 2 with g
 pub chose-of : (r : Run) (d i : ℕ) (t : Task) (k : ℕ) (g : Register) (noted : ℕ)
     → nth (r .steps) i ≡ some (begin d t noted) → answerAt r i ≡ done → ltb i k ≡ true → quiet (r .steps) d i k ≡ true
-    → inActivity (deskAt r d k .activity) ≡ some g → Chose r d i t g
-chose-of r d i t k g noted s a l q e = by-activity (deskAt r d k .activity) refl e
-  where
-    by-phases : (o : Operation) (p : Phase) → deskAt r d k .activity ≡ running o → o .phase ≡ p → inPhase p ≡ some g → Chose r d i t g
-    by-phases o first is ph n = let z : _≡_ {A = ℕ} 0 1 = cc in absurd (omega arith)
-    by-phases o (second h) is ph n =
-        record { place = k; current = current-of r d i t k noted s a l q; operation = o; runs = is; phase-two = let y : h ≡ g = cc in cc }
-
-    by-activity : (b : Activity) → deskAt r d k .activity ≡ b → inActivity b ≡ some g → Chose r d i t g
-    by-activity idle is n = let z : _≡_ {A = ℕ} 0 1 = cc in absurd (omega arith)
-    by-activity (running o) is n = by-phases o (o .phase) is refl n
-    by-activity (ended x) is n = let z : _≡_ {A = ℕ} 0 1 = cc in absurd (omega arith)
+    → viewOf r .chosen d k ≡ some g → Chose (viewOf r) d i t g
+chose-of r d i t k g noted s a l q e = record { place = k; current = current-of r d i t k noted s a l q; phase-two = e }
 
 -- whether no hear of desk d leaves it with a result
 abbrev pub neverTells : Run → ℕ → Bool
-neverTells r d = all (length (r .steps)) (λ k. not (tells (r .store .result (deskAt r d (suc k)) .answer)))
+neverTells r d = all (length (r .steps)) (λ k. when (viewOf r .gives d (suc k)) true (λ x. false))
 
 nth-within : (l : List Step) (k : ℕ) (s : Step) → nth l k ≡ some s → k < length l
-nth-within [] k s e = let z : _≡_ {A = ℕ} 0 1 = cc in absurd (omega arith)
+nth-within [] k s e = absurd (Option·none-ne-some s e)
 nth-within (x ∷ l) zero s e = omega arith
 nth-within (x ∷ l) (suc k) s e = omega (arith, nth-within l k s e)
 
-pub never-ends : (r : Run) (d : ℕ) → neverTells r d ≡ true → (i : ℕ) (t : Task) (k : ℕ) (x : Result) → Ends r d i t k x → ⊥
+pub never-ends : (r : Run) (d : ℕ) → neverTells r d ≡ true → (i : ℕ) (t : Task) (k : ℕ) (x : Result) → Ends (viewOf r) d i t k x → ⊥
 never-ends r d n i t k x e =
-    let z = all-each (length (r .steps)) (λ k. not (tells (r .store .result (deskAt r d (suc k)) .answer))) n k (nth-within (r .steps) k _ (e .step)) in
-    not-told (r .store .result (deskAt r d (suc k)) .answer) x (not-true _ z) (e .after)
+    let z = all-each (length (r .steps)) (λ k. when (viewOf r .gives d (suc k)) true (λ x. false)) n k (nth-within (r .steps) k _ (e .step)) in
+    absurd (false≢true (sym (ap (λ o. when o true (λ x. false)) (e .after)) ∙ z))

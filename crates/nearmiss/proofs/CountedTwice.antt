@@ -6,8 +6,8 @@ use Rattle.config.specs.declared.answer.Refusal.{Refusal}
 use Rattle.machine.specs.Parties.{start, read, write}
 use Rattle.machine.specs.Calls.{refused}
 use Rattle.machine.specs.Runs.{Step, begin, ask, serve, hear, result, machine, Run, answerAt}
-use Rattle.machine.specs.Operations.{Ends, Chose}
-use Rattle.machine.specs.Clauses.{Order}
+use Rattle.machine.specs.Views.{Ends, Chose, Order}
+use Rattle.machine.specs.Seen.{viewOf}
 use Rattle.nearmiss.specs.Steps.{runBy, room, trip, sale, sold, returned, written}
 use Rattle.nearmiss.specs.Parts.{hearWith, markWith}
 use Rattle.nearmiss.specs.CountedTwice.{weightHeard, enoughReplies, countedTwice}
@@ -28,23 +28,23 @@ steps =
 abbrev pub theirs : Run
 theirs = runBy countedTwice 3 1 steps
 
-pub sale-ends : Ends theirs 1 0 (write sale) 8 (written sold 0)
+pub sale-ends : Ends (viewOf theirs) 1 0 (write sale) 8 (written sold 0)
 unfolding computing hearWith markWith weightHeard enoughReplies
 sale-ends = ends-of theirs 1 0 (write sale) 8 (written sold 0) 0 3 refl refl refl refl refl refl refl
 
-pub sale-chose : Chose theirs 1 0 (write sale) sold
+pub sale-chose : Chose (viewOf theirs) 1 0 (write sale) sold
 unfolding computing hearWith markWith weightHeard enoughReplies
 sale-chose = chose-of theirs 1 0 (write sale) 5 sold 0 refl refl refl refl refl
 
-pub read-ends : Ends theirs 2 10 read 22 (returned start 0)
+pub read-ends : Ends (viewOf theirs) 2 10 read 22 (returned start 0)
 unfolding computing hearWith markWith weightHeard enoughReplies
 read-ends = ends-of theirs 2 10 read 22 (returned start 0) 0 11 refl refl refl refl refl refl refl
 
-pub read-chose : Chose theirs 2 10 read start
+pub read-chose : Chose (viewOf theirs) 2 10 read start
 unfolding computing hearWith markWith weightHeard enoughReplies
 read-chose = chose-of theirs 2 10 read 17 start 0 refl refl refl refl refl
 
-pub counted-twice-unordered : Order theirs → ⊥
+pub counted-twice-unordered : Order (viewOf theirs) → ⊥
 unfolding computing
 counted-twice-unordered = lower-tag sale-ends sale-chose refl read-chose refl
 

@@ -8,8 +8,8 @@ use mathlib.Core.List.{List, [], _∷_, _++_}
 use Rattle.machine.specs.Parties.{Register, read, write}
 use Rattle.machine.specs.Calls.{told}
 use Rattle.machine.specs.Runs.{Step, begin, result, machine, Run, answerAt}
-use Rattle.machine.specs.Operations.{Ends, Chose}
-use Rattle.machine.specs.Clauses.{Order, OneWrite, Values}
+use Rattle.machine.specs.Views.{Ends, Chose, Order, OneWrite, Values}
+use Rattle.machine.specs.Seen.{viewOf}
 use Rattle.nearmiss.specs.Steps.{runBy, trip, sale, sold, returned, written}
 use Rattle.nearmiss.specs.Parts.{hearWith, markWith}
 use Rattle.nearmiss.specs.FixedTag.{chooseFixed, fixedTag}
@@ -40,45 +40,45 @@ theirs = runBy fixedTag 3 1 steps
 abbrev pub again : Register
 again = record { stamp = 1; desk = 1; value = full }
 
-pub sale-ends : Ends theirs 1 0 (write sale) 12 (written sold 0)
+pub sale-ends : Ends (viewOf theirs) 1 0 (write sale) 12 (written sold 0)
 unfolding computing hearWith markWith chooseFixed
 sale-ends = ends-of theirs 1 0 (write sale) 12 (written sold 0) 0 7 refl refl refl refl refl refl refl
 
-pub sale-chose : Chose theirs 1 0 (write sale) sold
+pub sale-chose : Chose (viewOf theirs) 1 0 (write sale) sold
 unfolding computing hearWith markWith chooseFixed
 sale-chose = chose-of theirs 1 0 (write sale) 7 sold 0 refl refl refl refl refl
 
-pub second-ends : Ends theirs 2 13 (write full) 25 (written again 0)
+pub second-ends : Ends (viewOf theirs) 2 13 (write full) 25 (written again 0)
 unfolding computing hearWith markWith chooseFixed
 second-ends = ends-of theirs 2 13 (write full) 25 (written again 0) 0 15 refl refl refl refl refl refl refl
 
-pub second-chose : Chose theirs 2 13 (write full) again
+pub second-chose : Chose (viewOf theirs) 2 13 (write full) again
 unfolding computing hearWith markWith chooseFixed
 second-chose = chose-of theirs 2 13 (write full) 20 again 0 refl refl refl refl refl
 
-pub read-ends : Ends theirs 3 26 read 38 (returned sold 0)
+pub read-ends : Ends (viewOf theirs) 3 26 read 38 (returned sold 0)
 unfolding computing hearWith markWith chooseFixed
 read-ends = ends-of theirs 3 26 read 38 (returned sold 0) 0 23 refl refl refl refl refl refl refl
 
-pub read-chose : Chose theirs 3 26 read sold
+pub read-chose : Chose (viewOf theirs) 3 26 read sold
 unfolding computing hearWith markWith chooseFixed
 read-chose = chose-of theirs 3 26 read 33 sold 0 refl refl refl refl refl
 
-pub fixed-tag-unordered : Order theirs → ⊥
+pub fixed-tag-unordered : Order (viewOf theirs) → ⊥
 unfolding computing
 fixed-tag-unordered = not-higher sale-ends sale-chose refl second-chose refl
 
 -- two writes have the read's tag
-not-one : OneWrite theirs sold sale → ⊥
+not-one : OneWrite (viewOf theirs) sold sale → ⊥
 not-one w =
     let first = w .only 1 0 sale sold sale-chose (refl, refl) .0 in
     let second = w .only 2 13 full again second-chose (refl, refl) .0 in
     omega arith
 
-pub fixed-tag-values : Values theirs → ⊥
+pub fixed-tag-values : Values (viewOf theirs) → ⊥
 fixed-tag-values values =
     ⊎-elim (λ (z : (sold .stamp ≡ 0) × (sold .desk ≡ 0) × (sold .value ≡ [])). let one : _≡_ {A = ℕ} 1 0 = z .0 in omega arith)
-    (λ (w : OneWrite theirs sold sale). not-one w)
+    (λ (w : OneWrite (viewOf theirs) sold sale). not-one w)
     (values .source 3 26 sold read-chose)
 
 -- On the plain machine the read returns what was written last.

@@ -3,8 +3,8 @@ use native.Mathlib.Omega.{arith}
 use mathlib.Core.Path.{_≡_, refl}
 use Rattle.machine.specs.Parties.{write}
 use Rattle.machine.specs.Runs.{Run}
-use Rattle.machine.specs.Operations.{Ends, restartsMade}
-use Rattle.machine.specs.Clauses.{Restarts}
+use Rattle.machine.specs.Views.{Ends, restartsMade, Restarts}
+use Rattle.machine.specs.Seen.{viewOf}
 use Rattle.nearmiss.specs.Steps.{runBy, sale, sold, written}
 use Rattle.nearmiss.specs.NoRestarts.{resultWithout, noRestarts}
 use Rattle.nearmiss.proofs.Computing.{computing, ends-of}
@@ -13,15 +13,15 @@ use Rattle.nearmiss.proofs.Shown.{twoRestarts}
 abbrev pub theirs : Run
 theirs = runBy noRestarts 3 1 (twoRestarts .steps)
 
-pub write-ends : Ends theirs 1 2 (write sale) 21 (written sold 0)
+pub write-ends : Ends (viewOf theirs) 1 2 (write sale) 21 (written sold 0)
 unfolding computing resultWithout
 write-ends = ends-of theirs 1 2 (write sale) 21 (written sold 0) 0 11 refl refl refl refl refl refl refl
 
-pub made : restartsMade theirs 1 2 21 ≡ 2
+pub made : restartsMade (viewOf theirs) 1 2 21 ≡ 2
 unfolding computing
 made = refl
 
-pub no-restarts-misreported : Restarts theirs → ⊥
+pub no-restarts-misreported : Restarts (viewOf theirs) → ⊥
 no-restarts-misreported restarts =
-    let none : 0 ≡ restartsMade theirs 1 2 21 = restarts .made 1 2 21 (write sale) (written sold 0) write-ends in
+    let none : 0 ≡ restartsMade (viewOf theirs) 1 2 21 = restarts .made 1 2 21 (write sale) (written sold 0) write-ends in
     omega (arith, made)

@@ -14,8 +14,8 @@ use Rattle.machine.specs.Sets.{quorumOf}
 use Rattle.machine.specs.Parties.{start, reply, Message, read, write, second, running, Result}
 use Rattle.machine.specs.Calls.{Answer, late, refused, done, wrote, told}
 use Rattle.machine.specs.Runs.{Step, begin, ask, serve, hear, result, machine, Run, answerAt}
-use Rattle.machine.specs.Operations.{deskAt, Ends, Chose}
-use Rattle.machine.specs.Clauses.{Order}
+use Rattle.machine.specs.Views.{Ends, Chose, Order}
+use Rattle.machine.specs.Seen.{deskAt, viewOf}
 use Rattle.machine.proofs.Order.{order}
 use Rattle.nearmiss.specs.Steps.{runBy, room, trip, passOn, readAfter, sale, sold, returned, written, answersFrom, answers}
 use Rattle.nearmiss.specs.Parts.{hearWith}
@@ -54,25 +54,25 @@ fourteen = refl
 -- ---- the wrong store
 
 -- Desk 1's sale ends at place 24: it is told that the sale is written.
-pub sale-ends : Ends theirs 1 0 (write sale) 24 (written sold 0)
+pub sale-ends : Ends (viewOf theirs) 1 0 (write sale) 24 (written sold 0)
 unfolding computing hearWith countOther
 sale-ends = ends-of theirs 1 0 (write sale) 24 (written sold 0) 0 13 refl refl refl refl refl refl refl
 
-pub sale-chose : Chose theirs 1 0 (write sale) sold
+pub sale-chose : Chose (viewOf theirs) 1 0 (write sale) sold
 unfolding computing hearWith countOther
 sale-chose = chose-of theirs 1 0 (write sale) 10 sold 0 refl refl refl refl refl
 
 -- Desk 2's read, begun at place 26, returns the start: nothing is sold.
-pub read-ends : Ends theirs 2 26 read 41 (returned start 1)
+pub read-ends : Ends (viewOf theirs) 2 26 read 41 (returned start 1)
 unfolding computing hearWith countOther
 read-ends = ends-of theirs 2 26 read 41 (returned start 1) 0 23 refl refl refl refl refl refl refl
 
-pub read-chose : Chose theirs 2 26 read start
+pub read-chose : Chose (viewOf theirs) 2 26 read start
 unfolding computing hearWith countOther
 read-chose = chose-of theirs 2 26 read 36 start 0 refl refl refl refl refl
 
 -- So the order of tags does not hold.
-pub other-sheet-unordered : Order theirs → ⊥
+pub other-sheet-unordered : Order (viewOf theirs) → ⊥
 unfolding computing
 other-sheet-unordered = lower-tag sale-ends sale-chose refl read-chose refl
 
@@ -116,7 +116,7 @@ pub record Parting : Type 0 where
   pub quorum-then : quorumOf (configOf 5 1) [] three ≡ true
   pub no-quorum-now : quorumOf (configOf 5 1) (deskAt ours 2 43 .replica .set) three ≡ false
   -- desk 1's sale does not end
-  pub sale-not-ended : (k : ℕ) (x : Result) → Ends ours 1 0 (write sale) k x → ⊥
+  pub sale-not-ended : (k : ℕ) (x : Result) → Ends (viewOf ours) 1 0 (write sale) k x → ⊥
 
 pub parting : Parting
 unfolding computing answersFrom hearWith countOther
@@ -132,7 +132,7 @@ parting =
     }
 
 -- The order of tags holds of it, as of every list.
-pub ours-ordered : Order ours
+pub ours-ordered : Order (viewOf ours)
 unfolding validOf
 ours-ordered = order (configOf 5 1) refl steps
 
@@ -142,9 +142,9 @@ abbrev pub oursLater : Run
 oursLater = runBy machine 5 1 (steps ++ trip 1 2 24 ++ trip 1 2 26 ++ trip 1 4 28 ++ (result 1 ∷ []) ++ readAfter 3 30)
 
 pub record Later : Type 0 where
-  pub sale-ends : Ends oursLater 1 0 (write sale) 51 (written sold 2)
+  pub sale-ends : Ends (viewOf oursLater) 1 0 (write sale) 51 (written sold 2)
   pub sale-told : answerAt oursLater 52 ≡ told (written sold 2)
-  pub read-ends : Ends oursLater 3 53 read 68 (returned sold 1)
+  pub read-ends : Ends (viewOf oursLater) 3 53 read 68 (returned sold 1)
   pub read-told : answerAt oursLater 69 ≡ told (returned sold 1)
 
 pub later : Later

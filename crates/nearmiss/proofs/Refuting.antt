@@ -8,22 +8,21 @@ use lib.Dec.{eqb, ltb}
 use Rattle.config.specs.Cluster.{configOf, validOf}
 use Rattle.machine.specs.Parties.{Register, below, Task, write, Result}
 use Rattle.machine.specs.Calls.{Answer, unmade, late, refused, done, wrote, told}
-use Rattle.machine.specs.Runs.{Step, Store, machine, Run, answerAt}
-use Rattle.machine.specs.Operations.{Ends, Chose}
-use Rattle.machine.specs.Clauses.{Order}
+use Rattle.machine.specs.Runs.{Step, Store, machine, answerAt}
+use Rattle.machine.specs.Views.{View, Ends, Chose, Order}
 use Rattle.nearmiss.specs.Steps.{runBy, SameAnswers}
 
 -- an operation that ended, and a later one with a lower tag
-pub lower-tag : {r : Run} {d i k : ℕ} {t : Task} {x : Result} {a : Register} {e j : ℕ} {u : Task} {b : Register}
-    → Ends r d i t k x → Chose r d i t a → ltb k j ≡ true → Chose r e j u b → below b a ≡ true → Order r → ⊥
-lower-tag {r} {d} {i} {k} {t} {x} {a} {e} {j} {u} {b} ends chose l later lower order =
+pub lower-tag : {v : View} {d i k : ℕ} {t : Task} {x : Result} {a : Register} {e j : ℕ} {u : Task} {b : Register}
+    → Ends v d i t k x → Chose v d i t a → ltb k j ≡ true → Chose v e j u b → below b a ≡ true → Order v → ⊥
+lower-tag {v} {d} {i} {k} {t} {x} {a} {e} {j} {u} {b} ends chose l later lower order =
     true≢false (sym lower ∙ order d i k t x a ends chose e j u b (ltb-true k j l) later .0)
 
 -- an operation that ended, and a later write whose tag is no higher
-pub not-higher : {r : Run} {d i k : ℕ} {t : Task} {x : Result} {a : Register} {e j : ℕ} {v : List ℕ} {b : Register}
-    → Ends r d i t k x → Chose r d i t a → ltb k j ≡ true → Chose r e j (write v) b → below a b ≡ false → Order r → ⊥
-not-higher {r} {d} {i} {k} {t} {x} {a} {e} {j} {v} {b} ends chose l later lower order =
-    true≢false (sym (order d i k t x a ends chose e j (write v) b (ltb-true k j l) later .1 refl) ∙ lower)
+pub not-higher : {v : View} {d i k : ℕ} {t : Task} {x : Result} {a : Register} {e j : ℕ} {w : List ℕ} {b : Register}
+    → Ends v d i t k x → Chose v d i t a → ltb k j ≡ true → Chose v e j (write w) b → below a b ≡ false → Order v → ⊥
+not-higher {v} {d} {i} {k} {t} {x} {a} {e} {j} {w} {b} ends chose l later lower order =
+    true≢false (sym (order d i k t x a ends chose e j (write w) b (ltb-true k j l) later .1 refl) ∙ lower)
 
 -- ---- the equality of answers
 

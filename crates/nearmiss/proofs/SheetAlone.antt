@@ -5,8 +5,8 @@ use mathlib.Core.List.{List, [], _∷_, _++_}
 use Rattle.machine.specs.Parties.{start, read, write}
 use Rattle.machine.specs.Calls.{told}
 use Rattle.machine.specs.Runs.{Step, begin, machine, Run, answerAt}
-use Rattle.machine.specs.Operations.{Ends, Chose}
-use Rattle.machine.specs.Clauses.{Order}
+use Rattle.machine.specs.Views.{Ends, Chose, Order}
+use Rattle.machine.specs.Seen.{viewOf}
 use Rattle.nearmiss.specs.Steps.{runBy, trip, passOn, readAfter, sale, sold, returned, written}
 use Rattle.nearmiss.specs.SheetAlone.{serveSheet, sheetAlone}
 use Rattle.nearmiss.proofs.Computing.{computing, ends-of, chose-of}
@@ -20,23 +20,23 @@ steps =
 abbrev pub theirs : Run
 theirs = runBy sheetAlone 5 1 steps
 
-pub sale-ends : Ends theirs 1 0 (write sale) 18 (written sold 0)
+pub sale-ends : Ends (viewOf theirs) 1 0 (write sale) 18 (written sold 0)
 unfolding computing serveSheet
 sale-ends = ends-of theirs 1 0 (write sale) 18 (written sold 0) 0 11 refl refl refl refl refl refl refl
 
-pub sale-chose : Chose theirs 1 0 (write sale) sold
+pub sale-chose : Chose (viewOf theirs) 1 0 (write sale) sold
 unfolding computing serveSheet
 sale-chose = chose-of theirs 1 0 (write sale) 10 sold 0 refl refl refl refl refl
 
-pub read-ends : Ends theirs 2 25 read 40 (returned start 1)
+pub read-ends : Ends (viewOf theirs) 2 25 read 40 (returned start 1)
 unfolding computing serveSheet
 read-ends = ends-of theirs 2 25 read 40 (returned start 1) 0 23 refl refl refl refl refl refl refl
 
-pub read-chose : Chose theirs 2 25 read start
+pub read-chose : Chose (viewOf theirs) 2 25 read start
 unfolding computing serveSheet
 read-chose = chose-of theirs 2 25 read 35 start 0 refl refl refl refl refl
 
-pub sheet-alone-unordered : Order theirs → ⊥
+pub sheet-alone-unordered : Order (viewOf theirs) → ⊥
 unfolding computing
 sheet-alone-unordered = lower-tag sale-ends sale-chose refl read-chose refl
 

@@ -10,7 +10,8 @@ use Rattle.machine.specs.Sets.{weightOf, quorumOf}
 use Rattle.machine.specs.Parties.{start, read, write, first, second, running, Result}
 use Rattle.machine.specs.Calls.{done, told}
 use Rattle.machine.specs.Runs.{begin, ask, serve, result, drop, transfer, share, machine, Run, answerAt}
-use Rattle.machine.specs.Operations.{deskAt, Ends, Chose, restartsMade, gain}
+use Rattle.machine.specs.Views.{Ends, Chose, restartsMade, gain}
+use Rattle.machine.specs.Seen.{deskAt, viewOf}
 use Rattle.nearmiss.specs.Steps.{runBy, room, trip, sale, sold, returned, written}
 use Rattle.nearmiss.proofs.Computing.{computing, ends-of, chose-of, never-ends}
 
@@ -35,10 +36,10 @@ abbrev pub two : ℕ → Bool
 two i = cond (eqb i 1) true (eqb i 3)
 
 pub record Across : Type 0 where
-  pub write-ends : Ends across 1 0 (write sale) 18 (written sold 0)
+  pub write-ends : Ends (viewOf across) 1 0 (write sale) 18 (written sold 0)
   pub weight-moves : answerAt across 19 ≡ done
   -- the read restarts once, at its first reply
-  pub read-ends : Ends across 2 22 read 37 (returned sold 1)
+  pub read-ends : Ends (viewOf across) 2 22 read 37 (returned sold 1)
   pub read-told : answerAt across 38 ≡ told (returned sold 1)
   -- its two servers are a quorum on its own sheet, and were none before
   pub heavier : weightOf (configOf 4 1) (deskAt across 2 38 .replica .set) 3 ≡ pos 1333
@@ -72,10 +73,10 @@ droppedWrite =
     ++ (result 2 ∷ []))
 
 pub record Dropped : Type 0 where
-  pub write-chose : Chose droppedWrite 1 0 (write sale) sold
+  pub write-chose : Chose (viewOf droppedWrite) 1 0 (write sale) sold
   pub write-dropped : answerAt droppedWrite 9 ≡ done
-  pub write-never-ends : (k : ℕ) (x : Result) → Ends droppedWrite 1 0 (write sale) k x → ⊥
-  pub read-ends : Ends droppedWrite 2 10 read 22 (returned sold 0)
+  pub write-never-ends : (k : ℕ) (x : Result) → Ends (viewOf droppedWrite) 1 0 (write sale) k x → ⊥
+  pub read-ends : Ends (viewOf droppedWrite) 2 10 read 22 (returned sold 0)
   pub read-told : answerAt droppedWrite 23 ≡ told (returned sold 0)
 
 pub read-dropped : Dropped
@@ -105,11 +106,11 @@ pub record Restarted : Type 0 where
   -- a restart in phase 1 and one in phase 2
   pub before-choosing : deskAt twoRestarts 1 6 .activity ≡ running (record { task = write sale; note = 0; phase = first; heard = []; restarts = 1 })
   pub after-choosing : deskAt twoRestarts 1 16 .activity ≡ running (record { task = write sale; note = 0; phase = second sold; heard = []; restarts = 2 })
-  pub write-ends : Ends twoRestarts 1 2 (write sale) 21 (written sold 2)
+  pub write-ends : Ends (viewOf twoRestarts) 1 2 (write sale) 21 (written sold 2)
   pub write-told : answerAt twoRestarts 22 ≡ told (written sold 2)
   -- two restarts, which brought three transfers
-  pub made : restartsMade twoRestarts 1 2 21 ≡ 2
-  pub gained : gain twoRestarts 1 2 21 ≡ 3
+  pub made : restartsMade (viewOf twoRestarts) 1 2 21 ≡ 2
+  pub gained : gain (viewOf twoRestarts) 1 2 21 ≡ 3
 
 pub write-restarted : Restarted
 unfolding computing
@@ -130,7 +131,7 @@ abbrev pub unwritten : Run
 unwritten = runBy machine 3 1 ((begin 1 read 0 ∷ []) ++ trip 1 0 0 ++ trip 1 1 2 ++ trip 1 0 4 ++ trip 1 1 6 ++ (result 1 ∷ []))
 
 pub record Unwritten : Type 0 where
-  pub read-ends : Ends unwritten 1 0 read 12 (returned start 0)
+  pub read-ends : Ends (viewOf unwritten) 1 0 read 12 (returned start 0)
   pub read-told : answerAt unwritten 13 ≡ told (record { is-write = false; register = record { stamp = 0; desk = 0; value = [] }; restarts = 0 })
 
 pub read-unwritten : Unwritten

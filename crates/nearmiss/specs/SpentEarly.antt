@@ -7,7 +7,7 @@ use Rattle.config.specs.declared.answer.Refusal.{Refusal}
 use Rattle.machine.specs.Parties.{Task, Desk}
 use Rattle.machine.specs.Calls.{Outcome, refuse, beginBy}
 use Rattle.machine.specs.Runs.{Store}
-use Rattle.machine.specs.Operations.{accepted}
+use Rattle.machine.specs.Seen.{accepted}
 use Rattle.nearmiss.specs.Parts.{withBegin}
 
 -- where the plain machine would accept

@@ -9,7 +9,7 @@ use Rattle.machine.specs.Sets.{Transfers, union}
 use Rattle.machine.specs.Parties.{Replica}
 use Rattle.machine.specs.Calls.{Outcome, given-away, transferBy}
 use Rattle.machine.specs.Runs.{Store}
-use Rattle.machine.specs.Operations.{accepted}
+use Rattle.machine.specs.Seen.{accepted}
 use Rattle.nearmiss.specs.Parts.{withTransfer}
 
 -- the gifts that server i takes

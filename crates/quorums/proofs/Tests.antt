@@ -3,9 +3,9 @@ use Prim.Native.Nat.{ℕ, _≤_, _<_}
 use native.Mathlib.Omega.{arith}
 use mathlib.Core.Path.{_≡_, refl, sym, _∙_}
 use mathlib.Core.Logic.{_⊎_, inl, inr, ⊎-elim}
-use mathlib.Core.Bool.{Bool, true, false, cond}
-use borrow.Author.Tests.{lt-ltb, le-ltb, ltb-true, ltb-false}
-use lib.Dec.{ltb}
+use mathlib.Core.Bool.{Bool, true, false, cond, not}
+use borrow.Author.Tests.{eq-eqb, ne-eqb, eqb-true, eqb-false, lt-ltb, le-ltb, ltb-true, ltb-false, leb-true, leb-false}
+use lib.Dec.{eqb, leb, ltb}
 
 -- one of two orders holds
 pub le-or-lt : (a b : ℕ) → (a ≤ b) ⊎ (b < a)
@@ -21,6 +21,22 @@ ltb-same a b c d to from =
     ⊎-elim (λ (h : b ≤ a). le-ltb a b h ∙ sym (le-ltb c d (⊎-elim (λ (k : d ≤ c). k) (λ (k : c < d). omega (arith, from k)) (le-or-lt d c))))
     (λ (h : a < b). lt-ltb a b h ∙ sym (lt-ltb c d (to h)))
     (le-or-lt b a)
+
+-- equal, either way round
+pub eqb-comm : (a b : ℕ) → eqb a b ≡ eqb b a
+eqb-comm a b = by-test (eqb b a) refl
+  where
+    by-test : (t : Bool) → eqb b a ≡ t → eqb a b ≡ t
+    by-test true e = eq-eqb a b (sym (eqb-true b a e))
+    by-test false e = ne-eqb a b (λ q. eqb-false b a e (sym q))
+
+-- at least, and not below
+pub leb-not : (a b : ℕ) → leb a b ≡ not (ltb b a)
+leb-not a b = by-test (leb a b) refl
+  where
+    by-test : (t : Bool) → leb a b ≡ t → t ≡ not (ltb b a)
+    by-test true e = rw (le-ltb b a (leb-true a b e)) refl
+    by-test false e = rw (lt-ltb b a (leb-false a b e)) refl
 
 -- two tests that hold, one after the other
 pub both : (a b : Bool) → cond a b false ≡ true → (a ≡ true) × (b ≡ true)
