@@ -1,6 +1,6 @@
 -- Bad inputs of a server's calls, each with its number (paper 01, "Server" and "Numbers handed out"), the record and the buffer as they were, by
 -- computation; and beside those at a limit the last that is taken.
-use Prim.Native.Nat.{ℕ, _-_}
+use Prim.Native.Nat.{ℕ}
 use mathlib.Core.Path.{_≡_, refl}
 use mathlib.Core.List.{List, [], _∷_, _++_}
 use lib.ListN.{replicate, set}

@@ -1,1 +1,2 @@
-// Paper 01's cases 1 to 11 as one theorem, its share in hex, and bad inputs with their numbers: theorems over the definitions (proofs/), no function.
+// Paper 01's cases 1 to 11 as one theorem, its share in hex, bad inputs with their numbers, and whole runs of the program: theorems over the
+// definitions (proofs/), no function.

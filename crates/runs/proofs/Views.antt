@@ -1,0 +1,129 @@
+-- What is seen of the program's run is what is seen of the machine's: so the machine's clauses are the program's.
+use Prim.Native.Nat.{ℕ}
+use native.Mathlib.Omega.{arith}
+use mathlib.Core.Path.{_≡_, refl, ap, _∙_}
+use mathlib.Core.Bool.{Bool, true, false, cond}
+use mathlib.Core.List.{List, map}
+use mathlib.Core.Option.{none, some}
+use borrow.Author.Tests.{leb-true, leb-false}
+use lib.Dec.{eqb, leb}
+use lib.ListN.{length}
+use Rattle.quorums.specs.Sum.{sum}
+use Rattle.config.specs.Cluster.{validOf}
+use Rattle.config.specs.declared.cluster.Config.{Config}
+use Rattle.config.specs.declared.answer.Refusal.{Refusal}
+use Rattle.desk.specs.Desks.{numberLawful, fits, accepted, refused, freshDesk, blankDesk, opens, openOf as openDesk}
+use Rattle.desk.specs.Results.{resultOf}
+use Rattle.machine.specs.Parties.{Register, Phase, first, second, by-phase, Operation, Activity, idle, running, ended}
+use Rattle.machine.specs.Calls.{resultBy}
+use Rattle.machine.specs.Runs.{Run as PlainRun, opened as plainOpened, at as plainAt}
+use Rattle.machine.specs.Seen.{deskAt as plainDesk, resultIn, chosenIn as plainChosen, viewOf as plainView}
+use Rattle.machine.proofs.Moves.{Seated}
+use Rattle.machine.proofs.Ranges.{RegisterRange}
+use Rattle.runs.specs.Steps.{Step, plain, Typed}
+use Rattle.runs.specs.Calls.{plainRegister, resultCall}
+use Rattle.runs.specs.Runs.{opened, Run, runOf}
+use Rattle.runs.specs.Seen.{deskAt, chosenIn, transfersIn, viewOf}
+use Rattle.runs.specs.Clauses.{plainRun}
+use Rattle.runs.proofs.Records.{phaseFor, chosenFor, operationFor}
+use Rattle.runs.proofs.Registers.{register-back}
+use Rattle.runs.proofs.Desks.{result-for}
+use Rattle.runs.proofs.Supplied.{desk-range, desk-held}
+use Rattle.runs.proofs.Simulation.{stands-at, answer-at}
+use Rattle.runs.proofs.Brought.{first-for, transfers-for}
+
+-- the register that phase 1 chose, as it stands in the record for what a desk does
+chosen-for : (c : Config) (a : Activity) → ((o : Operation) (g : Register) → a ≡ running o → o .phase ≡ second g → RegisterRange c g)
+    → chosenIn (operationFor a) ≡ plainChosen a
+chosen-for c idle w = refl
+chosen-for c (running o) w = by-phases (o .phase) (λ g. w o g refl)
+  where
+    by-phases : (h : Phase) → ((g : Register) → h ≡ second g → RegisterRange c g)
+        → cond (eqb (phaseFor h) 2) (some (plainRegister (chosenFor h))) none ≡ by-phase h none (λ g. some g)
+    by-phases first v = refl
+    by-phases (second g) v = ap (λ u. some u) (register-back c g (v g refl))
+chosen-for c (ended y) w = refl
+
+-- a number is a desk's, or it is not
+either : (A : Type 0) (d : ℕ) → (Seated d → A) → ((Seated d → ⊥) → A) → A
+either A d f g = by-tests (leb 1 d) (leb d 65535) refl refl
+  where
+    by-tests : (a b : Bool) → leb 1 d ≡ a → leb d 65535 ≡ b → A
+    by-tests true true e h = f (record { some = leb-true 1 d e; most = leb-true d 65535 h })
+    by-tests true false e h = g (λ s. omega (arith, s .most, leb-false d 65535 h))
+    by-tests false b e h = g (λ s. omega (arith, s .some, leb-false 1 d e))
+
+module _ (c : Config) (valid : validOf c ≡ true) (steps : List Step) (typed : Typed steps) where
+  abbrev p : Run
+  p = runOf c steps
+
+  abbrev r : PlainRun
+  r = plainRun p
+
+  -- ---- desks with a number that desks have
+
+  module _ (d k : ℕ) (seated : Seated d) where
+    gives-seated : resultIn (resultCall (deskAt p d k) .answer) ≡ resultIn (r .store .result (plainDesk r d k) .answer)
+    gives-seated =
+        ap (λ x. resultIn (resultCall x .answer)) (stands-at c valid steps typed k .desks d seated)
+        ∙ ap (λ o. resultIn (o .answer))
+        (result-for c valid (plainAt r k .sent) d seated (plainDesk r d k) (desk-range c valid steps typed k d) (desk-held c valid steps typed k d))
+
+    chosen-seated : chosenIn (deskAt p d k .operation) ≡ plainChosen (plainDesk r d k .activity)
+    chosen-seated =
+        ap (λ x. chosenIn (x .operation)) (stands-at c valid steps typed k .desks d seated)
+        ∙ chosen-for c (plainDesk r d k .activity) (desk-range c valid steps typed k d .chosen)
+
+  -- ---- and other numbers: nothing is ever done
+
+  module _ (d k : ℕ) (other : Seated d → ⊥) where
+    idle-record : deskAt p d k ≡ opened c .desks d
+    idle-record = stands-at c valid steps typed k .others d other .0
+
+    idle-desk : plainDesk r d k ≡ plainOpened .desks d
+    idle-desk = stands-at c valid steps typed k .others d other .1
+
+    -- there is no such desk
+    none-opened : opened c .desks d ≡ blankDesk
+    unfolding openDesk opens numberLawful
+    none-opened = by-tests (leb 1 d) (leb d 65535) (λ a b. other (record { some = leb-true 1 d a; most = leb-true d 65535 b }))
+      where
+        by-tests : (a b : Bool) → (a ≡ true → b ≡ true → ⊥)
+            → cond (cond (cond a b false) (validOf c) false) (accepted (freshDesk c d)) (refused Refusal.BadHouse blankDesk) .desk ≡ blankDesk
+        by-tests true true n = absurd (n refl refl)
+        by-tests true false n = refl
+        by-tests false b n = refl
+
+    gives-none : resultIn (resultCall (deskAt p d k) .answer) ≡ resultIn (r .store .result (plainDesk r d k) .answer)
+    unfolding resultCall resultOf resultBy fits numberLawful
+    gives-none = rw (idle-record ∙ none-opened, idle-desk) refl
+
+    chosen-none : chosenIn (deskAt p d k .operation) ≡ plainChosen (plainDesk r d k .activity)
+    chosen-none = rw (idle-record ∙ none-opened, idle-desk) refl
+
+    transfers-none : transfersIn (deskAt p d k .replica .ledger) ≡ length (plainDesk r d k .replica .set)
+    unfolding sum
+    transfers-none = rw (idle-record ∙ none-opened, idle-desk) refl
+
+  -- ---- the whole
+
+  gives-same : (d k : ℕ) → viewOf p .gives d k ≡ plainView r .gives d k
+  gives-same d k = either _ d (gives-seated d k) (gives-none d k)
+
+  chosen-same : (d k : ℕ) → viewOf p .chosen d k ≡ plainView r .chosen d k
+  chosen-same d k = either _ d (chosen-seated d k) (chosen-none d k)
+
+  holds-same : (d k : ℕ) → viewOf p .holds d k ≡ plainView r .holds d k
+  holds-same d k = either _ d (transfers-for c valid steps typed d k) (transfers-none d k)
+
+  pub view-same : viewOf p ≡ plainView r
+  view-same =
+      λ i.
+      record {
+        steps = map plain steps;
+        answers = λ k. answer-at c valid steps typed k i;
+        gives = λ d k. gives-same d k i;
+        chosen = λ d k. chosen-same d k i;
+        brings = λ d k. first-for c valid steps typed d k i;
+        holds = λ d k. holds-same d k i;
+      }
