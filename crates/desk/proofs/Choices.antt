@@ -46,7 +46,7 @@ pub chosen-fits : (x : Desk) (r : Register) → fits x ≡ true → fitsRegister
 chosen-fits x r e h = chosen-either (λ g. fitsRegister g ≡ true) x r (λ w. written-fits x r e) h
 
 -- a write has a stamp left
-stamp-left : (x : Desk) (r : Register) → noStamp x r ≡ false → x .operation .kind ≡ writing → r .stamp < 4294967295
+pub stamp-left : (x : Desk) (r : Register) → noStamp x r ≡ false → x .operation .kind ≡ writing → r .stamp < 4294967295
 unfolding noStamp mostStamp stampBytes
 stamp-left x r e w = ltb-true (r .stamp) 4294967295 (not-false _ (rw (eq-eqb (x .operation .kind) writing w) at e))
 

@@ -1,5 +1,6 @@
 -- Laws: operations and desks, begin and drop, requests, results, and hearing a reply. `Ranges` is for what a call knows of its arguments, `Marks` for
--- the map of the servers that answered, `Choices` for what phase 1 chooses, `Heeded` for what hearing a message comes to.
+-- the map of the servers that answered, `Choices` for what phase 1 chooses, `Heeded` for what hearing a message comes to, `Told` for what answers
+-- tell, `Done` for what is accepted.
 pub mod Ranges
 pub mod Operations
 pub mod Desks
@@ -9,4 +10,6 @@ pub mod Results
 pub mod Marks
 pub mod Choices
 pub mod Heeded
+pub mod Told
 pub mod Hears
+pub mod Done

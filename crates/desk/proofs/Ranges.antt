@@ -1,5 +1,7 @@
 -- What a call knows of an argument that is an operation or a desk: arrays have their lengths, and each number fits its type.
+use Prim.Native.Nat.{_<_}
 use native.Mathlib.Omega.{arith}
+use mathlib.Core.Path.{_≡_}
 use mathlib.Core.List.{List}
 use mir.Val.{Val}
 use denote.Laws.{Is}
@@ -8,7 +10,7 @@ use Rattle.replica.proofs.Ranges.{value-is-typed, register-is-typed, replica-is
 use Rattle.desk.specs.declared.operation.Operation.{Operation}
 use Rattle.desk.specs.declared.record.Desk.{Desk}
 use Rattle.desk.specs.Operations.{Typed as TypedOperation}
-use Rattle.desk.specs.Desks.{Typed as TypedDesk}
+use Rattle.desk.specs.Desks.{mostRound, Typed as TypedDesk}
 use Rattle.desk.proofs.operation.Operation as OperationStruct
 use Rattle.desk.proofs.record.Desk as DeskStruct
 
@@ -38,3 +40,7 @@ desk-is-typed x vs is =
       round-fits = omega (arith, f .1 .1 .1 .0 .1);
       operation-typed = operation-is-typed (x .operation) _ (f .1 .1 .1 .1 .0);
     }
+
+-- a round that is not the last is below it
+pub round-left : (x : Desk) (vs : List Val) → Is (rowOf DeskStruct.the-type) x vs → (x .round ≡ mostRound → ⊥) → x .round < mostRound
+round-left x vs is d = omega (arith, desk-is-typed x vs is .round-fits, d)

@@ -13,7 +13,7 @@ ghost use Rattle.desk.specs.Operations.{reading, writing};
 ghost use Rattle.desk.specs.Begins.{startOf, beginOf, dropOf};
 
 // The last round.
-const MOST_ROUND: u32 = 4294967295;
+pub(crate) const MOST_ROUND: u32 = 4294967295;
 
 impl Desk {
     // Begins a read, with a note, or 0 for none: 1 for the record, 8 while an operation runs, 12 in the last round.

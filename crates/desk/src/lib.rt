@@ -1,6 +1,8 @@
 // A desk, the client of the store (paper 01, "Desk"). Its record goes in by value and comes back by value; every call tests it first.
 mod ask;
 mod begin;
+mod hear;
+mod heed;
 mod operation;
 mod record;
 mod result;

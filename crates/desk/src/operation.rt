@@ -5,6 +5,7 @@ use replica::Register;
 use replica::Value;
 ghost use mathlib.Core.Path.{_≡_};
 ghost use Rattle.desk.specs.Operations.{noOperation, begunOperation, modeLawful, kindLawful, phaseLawful, fits as fitsOf};
+ghost use Rattle.desk.specs.Hears.{answeredBy, inPhaseTwo, finishedOperation};
 
 // No operation, one that runs, one that has ended and whose result is kept.
 pub const NONE: u32 = 0;
@@ -61,6 +62,58 @@ impl Operation {
             answered: 0,
             value,
             chosen: Register::start(),
+        }
+    }
+
+    // The same operation, with other servers that answered and another number of restarts.
+    pub(crate) fn answered_by(self, map: u16, restarts: u32) -> Operation
+        ensures { λ r. ⌜ r ≡ answeredBy self map restarts ⌝ }
+    {
+        let value = self.value;
+        let chosen = self.chosen;
+        Operation {
+            mode: self.mode,
+            note: self.note,
+            restarts,
+            kind: self.kind,
+            phase: self.phase,
+            answered: map,
+            value,
+            chosen,
+        }
+    }
+
+    // The operation in phase 2, with the register that phase 1 chose: nobody has answered.
+    pub(crate) fn in_phase_two(self, chosen: Register) -> Operation
+        ensures { λ r. ⌜ r ≡ inPhaseTwo self chosen ⌝ }
+    {
+        let value = self.value;
+        Operation {
+            mode: RUNNING,
+            note: self.note,
+            restarts: self.restarts,
+            kind: self.kind,
+            phase: 2,
+            answered: 0,
+            value,
+            chosen,
+        }
+    }
+
+    // The operation once it has ended: what its result does not give is 0.
+    pub(crate) fn finished(self) -> Operation
+        ensures { λ r. ⌜ r ≡ finishedOperation self ⌝ }
+    {
+        let chosen = self.chosen;
+        Operation {
+            mode: ENDED,
+            note: 0,
+            restarts: self.restarts,
+            kind: self.kind,
+            phase: 0,
+            answered: 0,
+            value: Value::empty(),
+            chosen,
         }
     }
 

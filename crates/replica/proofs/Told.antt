@@ -1,4 +1,4 @@
--- What the ledger's answers tell of a replica.
+-- What the ledger's answers tell of a replica, and what a join's answer tells of the test before it.
 use mathlib.Core.Path.{_≡_, refl, sym, ap, _∙_}
 use mathlib.Core.Bool.{Bool, true, false, cond}
 use Rattle.config.specs.Cluster.{validOf}
@@ -12,8 +12,9 @@ use Rattle.ledger.specs.Checks.{bounded, aboveFloor, checkAnswer}
 use Rattle.ledger.specs.Joins.{joins, joined, mergeAnswer}
 use Rattle.ledger.proofs.Checks.{accepted-not-refused}
 use Rattle.replica.specs.declared.replica.Replica.{Replica}
+use Rattle.replica.specs.declared.replica.Joined.{Joined}
 use Rattle.replica.specs.Registers.{fits as fitsRegister}
-use Rattle.replica.specs.Replicas.{fits}
+use Rattle.replica.specs.Replicas.{fits, accepted as together, refused as apart}
 
 -- what `check` answers
 abbrev checked : Bool → Bool → Bool → Verdict
@@ -72,3 +73,19 @@ merge-refused c a b r k v e t = by-tests (joins a b) (aboveFloor c (joined a b))
     by-tests true true d = accepted-not-refused k (sym (ap (λ x. x .verdict) d) ∙ t)
     by-tests true false d = refl
     by-tests false f d = refl
+
+-- A party's join: where a test holds it is refused, and a stays as it was; otherwise it is p.
+module _ (b : Bool) (a p : Replica) (x : Joined) (e : x ≡ cond b (apart Refusal.Clash a) (together p)) where
+  pub accepted-told : x .verdict ≡ Verdict.Accepted → (b ≡ false) × (x .replica ≡ p)
+  accepted-told t = by-test b e
+    where
+      by-test : (b : Bool) → x ≡ cond b (apart Refusal.Clash a) (together p) → (b ≡ false) × (x .replica ≡ p)
+      by-test true d = accepted-not-refused _ (sym t ∙ ap (λ y. y .verdict) d)
+      by-test false d = (refl, ap (λ y. y .replica) d)
+
+  pub refused-told : (k : Refusal) → x .verdict ≡ Verdict.Refused k → b ≡ true
+  refused-told k t = by-test b e
+    where
+      by-test : (b : Bool) → x ≡ cond b (apart Refusal.Clash a) (together p) → b ≡ true
+      by-test true d = refl
+      by-test false d = accepted-not-refused k (sym (ap (λ y. y .verdict) d) ∙ t)

@@ -12,7 +12,6 @@ use Rattle.config.specs.declared.answer.Verdict.{Verdict}
 use Rattle.config.specs.declared.answer.Verdict.the-variants.{Accepted, Refused}
 use Rattle.config.specs.declared.answer.Number.{Number}
 use Rattle.ledger.specs.Ledgers.{countOf}
-use Rattle.ledger.proofs.Checks.{accepted-not-refused}
 use Rattle.message.specs.Answers.{fits as room}
 use Rattle.replica.specs.declared.envelope.Envelope.{Envelope}
 use Rattle.replica.specs.declared.envelope.Received.{Received}
@@ -20,6 +19,7 @@ use Rattle.replica.specs.declared.replica.Replica.{Replica}
 use Rattle.replica.specs.declared.replica.Joined.{Joined}
 use Rattle.replica.specs.Replicas.{joinable, join, joinAnswer, accepted, refused as notJoined}
 use Rattle.replica.specs.Envelopes.{place, receiveOf}
+use Rattle.replica.proofs.Told.{accepted-told, refused-told}
 use Rattle.server.specs.declared.record.Server.{Server}
 use Rattle.server.specs.declared.serve.Served.{Served}
 use Rattle.server.specs.Servers.{fits}
@@ -47,20 +47,12 @@ pub join-told : (s : Server) (r : Replica) (x : Joined)
     → x .verdict ≡ Verdict.Accepted
     → (clashes s r ≡ false) × (x .replica ≡ join (s .replica) r)
 unfolding joinOf
-join-told s r x e t = by-test (clashes s r) e
-  where
-    by-test : (b : Bool) → x ≡ cond b (notJoined Refusal.Clash (s .replica)) (accepted (join (s .replica) r)) → (b ≡ false) × (x .replica ≡ join (s .replica) r)
-    by-test true d = accepted-not-refused _ (sym t ∙ ap (λ y. y .verdict) d)
-    by-test false d = (refl, ap (λ y. y .replica) d)
+join-told s r x e t = accepted-told (clashes s r) (s .replica) (join (s .replica) r) x e t
 
 -- what is refused clashes
 pub join-refused : (s : Server) (r : Replica) (x : Joined) (k : Refusal) → x ≡ joinOf s r → x .verdict ≡ Verdict.Refused k → clashes s r ≡ true
 unfolding joinOf
-join-refused s r x k e t = by-test (clashes s r) e
-  where
-    by-test : (b : Bool) → x ≡ cond b (notJoined Refusal.Clash (s .replica)) (accepted (join (s .replica) r)) → b ≡ true
-    by-test true d = refl
-    by-test false d = accepted-not-refused _ (sym (ap (λ y. y .verdict) d) ∙ t)
+join-refused s r x k e t = refused-told (clashes s r) (s .replica) (join (s .replica) r) x e k t
 
 -- a replica that does not clash joins with the server's
 pub clear-joinable : (s : Server) (r : Replica) → clashes s r ≡ false → joinable (s .config) (s .replica) r ≡ true

@@ -5,17 +5,14 @@ use mathlib.Core.Path.{_≡_, ap₂, _∙_}
 use borrow.Author.Needs.{needs}
 use borrow.Author.Tests.{eq-eqb, ne-eqb, lt-ltb, le-ltb}
 use Rattle.desk.specs.Begins.{startOf}
-use Rattle.desk.specs.Desks.{accepted, turned}
-use Rattle.desk.proofs.Ranges.{desk-is-typed}
+use Rattle.desk.specs.Desks.{mostRound, accepted, turned}
+use Rattle.desk.proofs.Ranges.{round-left}
 use Rattle.desk.proofs.record.Desk.start.Statement.{statement}
 use Rattle.desk.proofs.record.Desk.start.Tie as tie
 
 -- the round is not the last
-below-last : (c : tie.Else2) → c .before .before .before .before .args .self .round < 4294967295
-below-last c =
-    let s = c .before .before .before .before in
-    let most = desk-is-typed (s .args .self) _ (s .good .0) .round-fits in
-    omega (arith, most, c .if2 .left)
+below-last : (c : tie.Else2) → c .before .before .before .before .args .self .round < mostRound
+below-last c = let s = c .before .before .before .before in round-left (s .args .self) _ (s .good .0) (c .if2 .left)
 
 refused-requires : tie.Need-refused-requires
 refused-requires c κs = search needs
@@ -31,7 +28,7 @@ returns-2 : tie.Need-returns-2
 unfolding startOf
 returns-2 c =
     let round = c .before .before .before .before .before .args .self .round in
-    simp (ne-eqb _ _ (c .before .before .if1 .left), le-ltb round 4294967295 (omega (arith, c .before .if2 .taken))) (c .refused2 .ensures)
+    simp (ne-eqb _ _ (c .before .before .if1 .left), le-ltb round mostRound (omega (arith, c .before .if2 .taken))) (c .refused2 .ensures)
 
 add-turned : tie.Need-add-turned
 add-turned c = search needs

@@ -1,0 +1,84 @@
+-- `hear` meets its contract: a message that the reader takes has passed its checks, so its fields are heard.
+use native.Mathlib.Omega.{arith}
+use mathlib.Core.Path.{_≡_, sym, ap, _∙_}
+use mathlib.Core.Bool.{true}
+use borrow.Author.Needs.{needs}
+use borrow.Author.Tests.{not-true, not-false}
+use denote.Ref.{now}
+use Rattle.config.specs.declared.answer.Verdict.{Verdict}
+use Rattle.message.specs.Headers.{Bytes}
+use Rattle.replica.specs.declared.envelope.Received.{Received}
+use Rattle.replica.specs.Envelopes.{receiveOf}
+use Rattle.replica.proofs.Envelopes.{receive-told}
+use Rattle.desk.specs.Desks.{fits}
+use Rattle.desk.proofs.Told.{hear-unfit, hear-taken, hear-untaken}
+use Rattle.desk.proofs.record.Desk.hear.Statement.{statement}
+use Rattle.desk.proofs.record.Desk.hear.Tie as tie
+
+fits-requires : tie.Need-fits-requires
+fits-requires c κs = search needs
+
+unheard-requires : tie.Need-unheard-requires
+unheard-requires c κs = search needs
+
+returns : tie.Need-returns
+returns c = c .unheard .ensures ∙ sym (hear-unfit _ _ (sym (c .before .before .fits2 .ensures) ∙ not-true _ (c .before .if1 .taken)))
+
+abbrev entry : tie.After-receive → tie.Start
+entry c = c .before .before .before .before
+
+fitting : (c : tie.After-receive) → fits (entry c .args .self) ≡ true
+fitting c = sym (c .before .before .fits2 .ensures) ∙ not-false _ (c .before .if1 .left)
+
+receive-requires : tie.Need-receive-requires
+receive-requires c κs = search needs
+
+enum-told : tie.Need-enum-told
+enum-told c = search needs
+
+-- the message is taken
+
+abbrev got : tie.After-enum-told → tie.After-receive
+got c = c .before .before .before .before
+
+accepts : (c : tie.After-enum-told)
+    → receiveOf (entry (got c) .args .self .config) (now (entry (got c) .args .msg)) .verdict ≡ Verdict.Accepted
+accepts c = sym (ap (λ (x : Received). x .verdict) (got c .receive .ensures)) ∙ c .enum-told .given .1
+
+hear-fields-requires : tie.Need-hear-fields-requires
+hear-fields-requires c κs =
+    let s = entry (got c) in
+    let known = got c .before .before .before .shared-slice-known .given in
+    let bytes : Bytes (now (s .args .msg)) = record { byte = λ k. omega (arith, known k) } in
+    (fitting (got c), rw (got c .receive .ensures) (receive-told (s .args .self .config) (now (s .args .msg)) bytes (accepts c)))
+
+enum-known-verdict : tie.Need-enum-known-verdict
+enum-known-verdict c = search needs
+
+unheard-requires-2 : tie.Need-unheard-requires-2
+unheard-requires-2 c κs = search needs
+
+returns-2 : tie.Need-returns-2
+returns-2 c =
+    let r : tie.After-receive = got (c .before) in
+    c .hear-fields .ensures ∙ sym (hear-taken _ _ _ (fitting r) (r .receive .ensures) (c .before .enum-told .given .1))
+
+returns-3 : tie.Need-returns-3
+returns-3 c =
+    let r : tie.After-receive = c .before .before .before .before .before .before in
+    c .unheard2 .ensures ∙ sym (hear-untaken _ _ _ (fitting r) (r .receive .ensures) _ (c .before .before .verdict .given .1))
+
+pub hear-spec : {M : Type 1} → statement M
+hear-spec =
+    tie.close
+    (tie.spec
+    fits-requires
+    unheard-requires
+    returns
+    receive-requires
+    enum-told
+    hear-fields-requires
+    enum-known-verdict
+    unheard-requires-2
+    returns-2
+    returns-3)
