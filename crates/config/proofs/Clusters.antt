@@ -3,15 +3,14 @@ use Prim.Native.Nat.{ℕ, suc, _+_, _-_, _*_, _/_, _≤_, _<_}
 use native.Mathlib.Nat.{add-mul, div-lt-iff-lt-mul, div-le-self, lt-of-mul-lt-mul-right, lt-of-le-of-lt, le-add-right}
 use native.Mathlib.Omega.{arith}
 use mathlib.Core.Path.{_≡_, sym, ap, _∙_}
-use mathlib.Core.Logic.{⊎-elim}
 use mathlib.Core.Bool.{Bool, true, false, cond, not}
-use borrow.Author.Tests.{le-leb, leb-true, lt-ltb, ltb-true, lt-leb, le-ltb}
+use borrow.Author.Tests.{le-leb, leb-true, lt-ltb, ltb-true, lt-leb}
 use lib.Dec.{leb, ltb}
 use lib.IntN.{ℤ, pos, negsuc}
 use lib.Signed.{ltZ}
 use Rattle.quorums.specs.Difference.{difference}
 use Rattle.quorums.proofs.Sums.{sum-const}
-use Rattle.quorums.proofs.Tests.{le-or-lt, ltb-same, both, chosen-first, chosen-second}
+use Rattle.quorums.proofs.Tests.{ltb-same, leb-not, both, chosen-first, chosen-second}
 use Rattle.quorums.proofs.Differences.{pos-difference, difference-down}
 use Rattle.quorums.proofs.Weights.{above-is}
 use Rattle.config.specs.declared.cluster.Config.{Config}
@@ -91,16 +90,11 @@ above-least c x y v =
     above-is (c .n) (c .f) (totalOf c) x y
     ∙ above-quotient (2 * (c .n - c .f)) (totalOf c) x y (omega (arith, valid-bounds c v .crash))
 
--- a test and its negation
-turned : (a b : ℕ) → leb (0 + a) b ≡ not (ltb b a)
-turned a b =
-    ⊎-elim (λ (h : a ≤ b). le-leb (0 + a) b (omega arith) ∙ sym (ap not (le-ltb b a h)))
-    (λ (h : b < a). lt-leb (0 + a) b (omega arith) ∙ sym (ap not (lt-ltb b a h)))
-    (le-or-lt a b)
-
 -- the same of any signed weight, as a comparison
 pub above-not-less : (c : Config) (w : ℤ) → validOf c ≡ true → aboveOf c w ≡ not (ltZ w (pos (leastOf c)))
-above-not-less c (pos x) v = rw (pos-difference x, above-least c x 0 v) (turned (leastOf c) x)
+above-not-less c (pos x) v =
+    let whole : 0 + leastOf c ≡ leastOf c = omega arith in
+    rw (pos-difference x, above-least c x 0 v, whole) (leb-not (leastOf c) x)
 above-not-less c (negsuc x) v = rw (below x, above-least c 0 (suc x) v) (lt-leb (suc x + leastOf c) 0 (omega arith))
   where
     below : (x : ℕ) → negsuc x ≡ difference 0 (suc x)

@@ -1,14 +1,13 @@
 -- The register that phase 1 chooses: one that a desk may hold, with a tag that is not below the one that was held.
-use Prim.Native.Nat.{suc, _+_, _≤_, _<_}
+use Prim.Native.Nat.{suc, _≤_, _<_}
 use native.Mathlib.Omega.{arith}
 use mathlib.Core.Path.{_≡_, refl}
 use mathlib.Core.Bool.{Bool, true, false, cond, true≢false}
-use borrow.Author.Tests.{eq-eqb, ne-eqb, eqb-true, lt-ltb, le-ltb, ltb-true, ltb-false, le-leb, not-false}
+use borrow.Author.Tests.{eq-eqb, ne-eqb, eqb-true, lt-ltb, le-ltb, ltb-true, ltb-false, not-false}
 use lib.Dec.{eqb}
 use Rattle.quorums.proofs.Tests.{chosen-second}
 use Rattle.config.specs.Cluster.{stampBytes, mostStamp}
-use Rattle.format.specs.Table.{registerMark}
-use Rattle.message.specs.Faults.{registerFits}
+use Rattle.message.proofs.Registers.{good-fits}
 use Rattle.replica.specs.declared.register.Register.{Register}
 use Rattle.replica.specs.Registers.{below, fits as fitsRegister, Typed as TypedRegister}
 use Rattle.desk.specs.declared.record.Desk.{Desk}
@@ -31,16 +30,14 @@ chosen-either P x r w h = by-test (eqb (x .operation .kind) writing) refl
     by-test false e = h
 
 written-fits : (x : Desk) (r : Register) → fits x ≡ true → fitsRegister (written x r) ≡ true
-unfolding fitsRegister registerFits registerMark
+unfolding fitsRegister
 written-fits x r e =
     let t = fits-told x e in
-    let n = number-told (x .number) (t .number-in) in
-    simp (
-      ne-eqb (suc (r .stamp) + x .number + x .operation .value .length) 0 (λ z. omega arith),
-      ne-eqb (suc (r .stamp)) 0 (λ z. omega arith),
-      ne-eqb (x .number) 0 (λ z. omega arith),
-      le-leb (x .operation .value .length) 64 (operation-told (x .config) (x .round) (x .operation) (t .operation-fits) .value-short),
-    )
+    good-fits (suc (r .stamp)) (x .number) (x .operation .value .length) (record {
+      stamp-stands = λ m. omega arith;
+      desk-stands = λ m. number-told (x .number) (t .number-in) .0;
+      short = operation-told (x .config) (x .round) (x .operation) (t .operation-fits) .value-short;
+    })
 
 pub chosen-fits : (x : Desk) (r : Register) → fits x ≡ true → fitsRegister r ≡ true → fitsRegister (chosenOf x r) ≡ true
 chosen-fits x r e h = chosen-either (λ g. fitsRegister g ≡ true) x r (λ w. written-fits x r e) h

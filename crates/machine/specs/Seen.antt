@@ -6,7 +6,7 @@ use mathlib.Core.Option.{Option, none, some}
 use lib.Dec.{eqb}
 use lib.ListN.{length}
 use Rattle.machine.specs.Sets.{Transfers, missing}
-use Rattle.machine.specs.Parties.{Register, Message, by-phase, Activity, idle, running, ended, Result, Desk}
+use Rattle.machine.specs.Parties.{Register, by-phase, Activity, idle, running, ended, Result, Desk}
 use Rattle.machine.specs.Calls.{Answer, unmade, late, refused, done, wrote, told}
 use Rattle.machine.specs.Runs.{Step, begin, ask, serve, hear, result, drop, transfer, share, crash, nth, when, Run, at, answerAt}
 use Rattle.machine.specs.Views.{View}
@@ -41,8 +41,8 @@ accepted done = true
 accepted (wrote k) = true
 accepted (told x) = true
 
--- the message that a step hears at desk d
-abbrev pub heardBy : ℕ → List Message → Step → Option Message
+-- the message that a step hears at desk d, of those sent
+abbrev pub heardBy : {A : Type 0} → ℕ → List A → Step → Option A
 heardBy d l (begin e t note) = none
 heardBy d l (ask e i place size) = none
 heardBy d l (serve i k place size) = none

@@ -54,7 +54,7 @@ fits-good stamp desk n e = by-mark (eqb (stamp + desk + n) 0) refl e
           short = leb-true n 64 (q .1);
         }
 
-good-fits : (stamp desk n : ℕ) → RegisterGood stamp desk n → registerFits stamp desk n ≡ true
+pub good-fits : (stamp desk n : ℕ) → RegisterGood stamp desk n → registerFits stamp desk n ≡ true
 unfolding registerFits
 good-fits stamp desk n g =
     ⊎-elim (λ (z : registerMark stamp desk n ≤ 0). simp (eq-eqb (registerMark stamp desk n) 0 (omega arith)))

@@ -18,9 +18,9 @@ use Rattle.config.proofs.Clusters.{valid-bounds}
 use Rattle.ledger.specs.Ledgers.{countOf}
 use Rattle.machine.specs.Sets.{Transfer, Transfers, has, union, tally, count}
 use Rattle.machine.specs.Parties.{join, Message, bytesOf}
-use Rattle.machine.specs.Runs.{Run as PlainRun, at as plainAt, answerAt as plainAnswer, nth, when}
+use Rattle.machine.specs.Runs.{Step as PlainStep, begin, ask, serve, hear, result, drop, transfer, share, crash, Run as PlainRun, at as plainAt, answerAt as plainAnswer, nth, when}
 use Rattle.machine.specs.Clauses.{Found as PlainFound, by-desk as plain-desk, by-message as plain-message}
-use Rattle.machine.specs.Seen.{accepted, deskAt as plainDesk, heardBy as plainHeard, brings as plainBrings, brought as plainBrought, firstBrought as plainFirst}
+use Rattle.machine.specs.Seen.{accepted, deskAt as plainDesk, heardBy, brings as plainBrings, brought as plainBrought, firstBrought as plainFirst}
 use Rattle.machine.proofs.Sets.{tally-same, tally-sum, missing-same}
 use Rattle.machine.proofs.Closed.{count-some}
 use Rattle.machine.proofs.Moves.{Seated}
@@ -28,12 +28,11 @@ use Rattle.machine.proofs.Desks.{desk-moved}
 use Rattle.machine.proofs.Restarts.{held, size-next, restarts}
 use Rattle.machine.proofs.Clashes.{found-agree}
 use Rattle.machine.proofs.SetRanges.{found-range}
-use Rattle.runs.specs.Steps.{Step, begin, ask, serve, hear, result, drop, transfer, share, crash, plain, Typed}
+use Rattle.runs.specs.Steps.{Step, plain, Typed}
 use Rattle.runs.specs.Runs.{Run, at, runOf}
-use Rattle.runs.specs.Seen.{deskAt, heardBy, ledgerIn, brings, brought, firstBrought, transfersIn}
+use Rattle.runs.specs.Seen.{deskAt, ledgerIn, brings, brought, firstBrought, transfersIn}
 use Rattle.runs.specs.Clauses.{plainRun}
 use Rattle.runs.proofs.Ledgers.{count-below}
-use Rattle.runs.proofs.Steps.{nth-map}
 use Rattle.runs.proofs.Simulation.{stands-at, answer-at}
 use Rattle.runs.proofs.Sheets.{sent-at, sent-carries}
 
@@ -73,9 +72,9 @@ module _ (c : Config) (valid : validOf c ≡ true) (steps : List Step) (typed : 
   -- ---- what a step brings
 
   -- what is counted of a message heard
-  heard-for : (d k i : ℕ) → i < 16 → (st : Step)
+  heard-for : (d k i : ℕ) → i < 16 → (st : PlainStep)
       → when (heardBy d (at p k .sent) st) 0 (λ msg. countOf (ledgerIn c msg) i)
-      ≡ count (when (plainHeard d (plainAt r k .sent) (plain st)) [] (λ m. m .replica .set)) i
+      ≡ count (when (heardBy d (plainAt r k .sent) st) [] (λ m. m .replica .set)) i
   unfolding count tally
   heard-for d k i l (begin e t note) = refl
   heard-for d k i l (ask e j place out) = refl
@@ -102,19 +101,19 @@ module _ (c : Config) (valid : validOf c ≡ true) (steps : List Step) (typed : 
   -- of each giver as many as the machine's step
   pub brings-for : (d k i : ℕ) → i < 16 → brings p d k i ≡ count (plainBrings r d k) i
   unfolding brings plainBrings count tally
-  brings-for d k i l = rw (nth-map plain steps k, answer-at c valid steps typed k) (by-step (nth steps k))
+  brings-for d k i l = rw (answer-at c valid steps typed k) (by-step (nth (map plain steps) k))
     where
-      by-answer : (b : Bool) (st : Step)
+      by-answer : (b : Bool) (st : PlainStep)
           → cond b (when (heardBy d (at p k .sent) st) 0 (λ msg. countOf (ledgerIn c msg) i)) 0
-          ≡ count (cond b (when (plainHeard d (plainAt r k .sent) (plain st)) [] (λ m. m .replica .set)) []) i
+          ≡ count (cond b (when (heardBy d (plainAt r k .sent) st) [] (λ m. m .replica .set)) []) i
       by-answer true st = heard-for d k i l st
       by-answer false st = refl
 
-      by-step : (o : Option Step)
+      by-step : (o : Option PlainStep)
           → when o 0 (λ st. cond (accepted (plainAnswer r k)) (when (heardBy d (at p k .sent) st) 0 (λ msg. countOf (ledgerIn c msg) i)) 0)
           ≡ count
-          (when (when o none (λ st. some (plain st))) []
-          (λ s. cond (accepted (plainAnswer r k)) (when (plainHeard d (plainAt r k .sent) s) [] (λ m. m .replica .set)) []))
+          (when o []
+          (λ st. cond (accepted (plainAnswer r k)) (when (heardBy d (plainAt r k .sent) st) [] (λ m. m .replica .set)) []))
           i
       by-step none = refl
       by-step (some st) = by-answer (accepted (plainAnswer r k)) st

@@ -134,6 +134,10 @@ added-for a i j k d l m =
 
 -- ---- the cluster's bounds
 
+-- there are at most 16 servers
+pub server-below : (c : Config) → validOf c ≡ true → (i : ℕ) → i < c .n → i < 16
+server-below c valid i l = omega (arith, valid-bounds c valid .most)
+
 -- a cell that holds nothing may stand anywhere
 may-hold-zero : (n k x : ℕ) → x ≡ 0 → mayHold n k x ≡ true
 unfolding mayHold
@@ -145,10 +149,6 @@ unfolding totalFits
 total-fits count total p q = rw (le-leb _ _ p) (le-leb _ _ q)
 
 module _ (c : Config) (valid : validOf c ≡ true) (a : Transfers) (w : SetRange c a) where
-  -- a server of the cluster is below 16
-  small : (i : ℕ) → i < c .n → i < 16
-  small i l = omega (arith, valid-bounds c valid .most)
-
   -- there is nothing of servers from n on
   pub count-for : (i : ℕ) → countOf (ledgerFor a) i ≡ count a i
   count-for i =
@@ -202,16 +202,16 @@ module _ (c : Config) (valid : validOf c ≡ true) (a : Transfers) (w : SetRange
 
   pub weight-for : (i : ℕ) → i < c .n → weightOf c (ledgerFor a) i ≡ plainWeight c a i
   unfolding weightOf plainWeight weight
-  weight-for i l = ap₂ difference (ap (λ x. startOf c i + x) (received-for i (small i l))) (given-for i (small i l))
+  weight-for i l = ap₂ difference (ap (λ x. startOf c i + x) (received-for i (server-below c valid i l))) (given-for i (server-below c valid i l))
 
   -- what the servers of a set have before their gifts are taken off, and what they gave
   held-in : (p q : ℕ → Bool) → ((i : ℕ) → i < c .n → p i ≡ q i)
       → sumIn (c .n) p (held (accountsOf c (ledgerFor a))) ≡ sumIn (c .n) q (held (accounts c a))
   held-in p q e =
-      sumIn-same (c .n) p _ _ (λ i l s. ap (λ x. startOf c i + x) (received-for i (small i l))) ∙ sumIn-set (c .n) p q _ e
+      sumIn-same (c .n) p _ _ (λ i l s. ap (λ x. startOf c i + x) (received-for i (server-below c valid i l))) ∙ sumIn-set (c .n) p q _ e
 
   given-in : (p q : ℕ → Bool) → ((i : ℕ) → i < c .n → p i ≡ q i) → sumIn (c .n) p (givenOf (ledgerFor a)) ≡ sumIn (c .n) q (given a)
-  given-in p q e = sumIn-same (c .n) p _ _ (λ i l s. given-for i (small i l)) ∙ sumIn-set (c .n) p q _ e
+  given-in p q e = sumIn-same (c .n) p _ _ (λ i l s. given-for i (server-below c valid i l)) ∙ sumIn-set (c .n) p q _ e
 
   pub all-for : allOf c (ledgerFor a) ≡ weightIn (c .n) (accounts c a) (λ i. true)
   unfolding allOf

@@ -1,15 +1,14 @@
 -- The register for one of the machine's: it passes the record test, is compared as the machine's is, and is found again by reading it.
-use Prim.Native.Nat.{_+_, _≤_}
+use Prim.Native.Nat.{_≤_}
 use native.Mathlib.Omega.{arith}
 use mathlib.Core.Path.{_≡_, refl, sym, ap, _∙_}
 use mathlib.Core.Logic.{⊎-elim}
 use mathlib.Core.Bool.{Bool, true, false, cond}
-use borrow.Author.Tests.{eqb-true, ne-eqb, le-leb}
+use borrow.Author.Tests.{eqb-true}
 use lib.Dec.{eqb}
-use Rattle.format.specs.Table.{registerMark}
-use Rattle.message.specs.Faults.{registerFits}
 use Rattle.config.specs.Cluster.{mostStamp}
 use Rattle.config.specs.declared.cluster.Config.{Config}
+use Rattle.message.proofs.Registers.{good-fits}
 use Rattle.replica.specs.declared.register.Register.{Register as Kept}
 use Rattle.replica.specs.Values.{bytesOf, valueOf, same}
 use Rattle.replica.specs.Registers.{startRegister, fits, below, higher, agree, trimmed, Typed}
@@ -54,17 +53,6 @@ agree-for a b e = by-tests (eqb (a .stamp) (b .stamp)) (eqb (a .desk) (b .desk))
 
 -- ---- within the ranges
 
--- a register with a tag and a value of up to 64 bytes passes
-tagged-fits : (r : Kept) → 1 ≤ r .stamp → 1 ≤ r .desk → r .value .length ≤ 64 → fits r ≡ true
-unfolding fits registerFits registerMark
-tagged-fits r s d l =
-    simp (
-      ne-eqb (r .stamp + r .desk + r .value .length) 0 (λ e. omega arith),
-      ne-eqb (r .stamp) 0 (λ e. omega arith),
-      ne-eqb (r .desk) 0 (λ e. omega arith),
-      le-leb (r .value .length) 64 l,
-    )
-
 module _ (c : Config) (g : Register) (w : RegisterRange c g) where
   -- its value is found again
   pub value-back : bytesOf (registerFor g .value) ≡ g .value
@@ -77,9 +65,11 @@ module _ (c : Config) (g : Register) (w : RegisterRange c g) where
   trimmed-for = ap {B = Kept} (λ v. record { stamp = g .stamp; desk = g .desk; value = v }) (trimmed-value (g .value) (w .short))
 
   pub register-fits : fits (registerFor g) ≡ true
+  unfolding fits
   register-fits =
       ⊎-elim (λ (e : g ≡ start). ap (λ x. fits (registerFor x)) e ∙ ap fits start-for ∙ start-fits)
-      (λ (t : (1 ≤ g .stamp) × (g .stamp ≤ mostStamp c) × Seated (g .desk)). tagged-fits (registerFor g) (t .0) (t .2 .some) (value-short (g .value)))
+      (λ (t : (1 ≤ g .stamp) × (g .stamp ≤ mostStamp c) × Seated (g .desk)). good-fits (g .stamp) (g .desk) (valueOf (g .value) .length)
+      (record { stamp-stands = λ m. t .0; desk-stands = λ m. t .2 .some; short = value-short (g .value) }))
       (w .tag)
 
   pub register-typed : Typed (registerFor g)

@@ -11,7 +11,7 @@ use Rattle.quorums.proofs.Tests.{eqb-comm, leb-not}
 use Rattle.config.specs.Cluster.{validOf}
 use Rattle.config.specs.declared.cluster.Config.{Config}
 use Rattle.config.specs.declared.answer.Refusal.{Refusal}
-use Rattle.config.proofs.Clusters.{valid-bounds, valid-server}
+use Rattle.config.proofs.Clusters.{valid-server}
 use Rattle.ledger.specs.Changes.{lawful}
 use Rattle.message.specs.Answers.{fits as room}
 use Rattle.server.specs.declared.record.Server.{Server}
@@ -22,14 +22,15 @@ use Rattle.server.specs.Serves.{stray, clashes, joinedServer, replyMessage, rep
 use Rattle.server.proofs.Servers.{told-fits}
 use Rattle.server.proofs.Told.{fields-stray, fields-share, fields-reply, reply-written, reply-narrow}
 use Rattle.machine.specs.Sets.{count}
-use Rattle.machine.specs.Parties.{Register, higher, below as lower, Replica, join, Kind, request, reply, share, Message, by-kind, bytesOf}
+use Rattle.machine.specs.Parties.{Replica, join, Kind, request, reply, share, Message, by-kind, bytesOf}
 use Rattle.machine.specs.Calls.{mostCount, done, wrote, accept, refuse, send, given-away, spares as plainSpares, transferBy, shareBy, replyTo, served, answerRequest, serveBy}
+use Rattle.machine.proofs.Joins.{join-either}
 use Rattle.machine.proofs.Clashes.{Joins}
 use Rattle.machine.proofs.Ranges.{RegisterRange}
 use Rattle.machine.proofs.WorkRanges.{HeadRange}
 use Rattle.runs.specs.Calls.{serverCalled, servedCalled, transferCall, shareCall, serveCall}
 use Rattle.runs.proofs.Records.{replicaFor, serverFor, envelopeFor, calledFor, Held}
-use Rattle.runs.proofs.Ledgers.{count-below, weight-for, added-for}
+use Rattle.runs.proofs.Ledgers.{count-below, server-below, weight-for, added-for}
 use Rattle.runs.proofs.Messages.{replica-fits, join-for, joinable-for, message-for, received-for, placed-answer, placed-sent, send-same, nothing-sent}
 
 -- none, and not at least one
@@ -39,23 +40,6 @@ none-not d = by-test (leb 1 d) refl
     by-test : (t : Bool) → leb 1 d ≡ t → eqb d 0 ≡ not t
     by-test true e = ne-eqb d 0 (λ q. omega (arith, leb-true 1 d e))
     by-test false e = eq-eqb d 0 (omega (arith, leb-false 1 d e))
-
--- ---- what is sent
-
--- the higher of two registers within the ranges is within them
-higher-range : (c : Config) (a b : Register) → RegisterRange c a → RegisterRange c b → RegisterRange c (higher a b)
-unfolding higher
-higher-range c a b v w = by-test (lower a b)
-  where
-    by-test : (t : Bool) → RegisterRange c (cond t b a)
-    by-test true = w
-    by-test false = v
-
--- ---- servers
-
--- there are at most 16
-small : (c : Config) → validOf c ≡ true → (i : ℕ) → i < c .n → i < 16
-small c valid i l = omega (arith, valid-bounds c valid .most)
 
 -- a reply of server i, written where it fits
 reply-for : (c : Config) (i : ℕ) (old new : Replica) (m : Message) (place : ℕ) (out : List ℕ)
@@ -97,11 +81,11 @@ module _ (c : Config) (valid : validOf c ≡ true) (i : ℕ) (below : i < c .n) 
         leb-not (c .n) j,
         none-not d,
         leb-not mostCount (count (x .set) i),
-        count-below (x .set) i (small c valid i below),
+        count-below (x .set) i (server-below c valid i below),
         weight-for c valid (x .set) (h .range .set) i below,
       )
       (by-tests (eqb i j) (ltb j (c .n)) (leb 1 d) (ltb (count (x .set) i) mostCount) (plainSpares c x i d)
-      (λ e. small c valid j (ltb-true j (c .n) e)))
+      (λ e. server-below c valid j (ltb-true j (c .n) e)))
     where
       -- whether the taker is the giver, is one of the servers, the amount is at least 1, a number is left, and what is kept is above the floor
       by-tests : (same inside some left above : Bool) → (inside ≡ true → j < 16)
@@ -119,7 +103,7 @@ module _ (c : Config) (valid : validOf c ≡ true) (i : ℕ) (below : i < c .n) 
       by-tests false true false left above l = refl
       by-tests false true true false above l = refl
       by-tests false true true true false l = refl
-      by-tests false true true true true l = rw (added-for (x .set) i j (suc (count (x .set) i)) d (small c valid i below) (l refl)) refl
+      by-tests false true true true true l = rw (added-for (x .set) i j (suc (count (x .set) i)) d (server-below c valid i below) (l refl)) refl
 
   pub transfer-for : (j d : ℕ) → transferCall (serverFor c i x) j d ≡ calledFor c (serverFor c i) (transferBy c i x j d)
   unfolding transferCall transferOf
@@ -151,8 +135,8 @@ module _ (c : Config) (valid : validOf c ≡ true) (i : ℕ) (below : i < c .n) 
     unfolding clashes
     clear own =
         rw (
-          count-below (x .set) i (small c valid i below),
-          count-below (m .replica .set) i (small c valid i below),
+          count-below (x .set) i (server-below c valid i below),
+          count-below (m .replica .set) i (server-below c valid i below),
           le-ltb (count (x .set) i) (count (m .replica .set) i) own,
           joinable-for c valid x (m .replica) j,
         )
@@ -164,8 +148,7 @@ module _ (c : Config) (valid : validOf c ≡ true) (i : ℕ) (below : i < c .n) 
 
     -- its register is within the ranges
     joined-range : RegisterRange c (join x (m .replica) .register)
-    unfolding join
-    joined-range = higher-range c (x .register) (m .replica .register) (h .range .register) (k .range .register)
+    joined-range = join-either (RegisterRange c) x (m .replica) (h .range .register) (k .range .register)
 
     -- a request is joined, then replied to
     answer-for : (place : ℕ) (out : List ℕ)

@@ -4,13 +4,6 @@ use mathlib.Core.Path.{_≡_, refl, ap}
 use mathlib.Core.List.{List, [], _∷_, _++_, map}
 use mathlib.Core.Option.{none, some}
 use Rattle.machine.specs.Runs.{nth, when}
-use Rattle.machine.specs.Typed.{Typed as TypedPlain}
-use Rattle.runs.specs.Steps.{Step, plain, Typed}
-
--- the machine's steps have arguments that a call can have, too
-pub typed-plain : (steps : List Step) → Typed steps → TypedPlain (map plain steps)
-typed-plain [] t = tt
-typed-plain (st ∷ steps) t = (t .0 .0, typed-plain steps (t .1))
 
 module _ {A B : Type 0} (f : A → B) where
   -- what is at a place of the list

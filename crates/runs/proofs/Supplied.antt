@@ -18,14 +18,13 @@ use Rattle.runs.specs.Steps.{Step, plain, Typed}
 use Rattle.runs.specs.Runs.{runOf}
 use Rattle.runs.specs.Clauses.{plainRun}
 use Rattle.runs.proofs.Records.{Held}
-use Rattle.runs.proofs.Steps.{typed-plain}
 
 module _ (c : Config) (valid : validOf c ≡ true) (steps : List Step) (typed : Typed steps) where
   abbrev r : PlainRun
   r = plainRun (runOf c steps)
 
   state-range : (k : ℕ) → StateRange c (plainAt r k)
-  state-range k = ranges c valid (map plain steps) (typed-plain steps typed) k
+  state-range k = ranges c valid (map plain steps) typed k
 
   -- a server
   pub server-held : (k i : ℕ) → Held c (plainAt r k .servers i .replica)

@@ -15,8 +15,8 @@ use Rattle.desk.specs.Operations.{running}
 use Rattle.machine.specs.Parties.{Register}
 use Rattle.machine.specs.Runs.{nth, when}
 use Rattle.machine.specs.Views.{View}
-use Rattle.machine.specs.Seen.{resultIn, accepted}
-use Rattle.runs.specs.Steps.{Step, begin, ask, serve, hear, result, drop, transfer, share, crash, plain}
+use Rattle.machine.specs.Seen.{resultIn, accepted, heardBy}
+use Rattle.runs.specs.Steps.{plain}
 use Rattle.runs.specs.Calls.{plainRegister, resultCall}
 use Rattle.runs.specs.Runs.{Run, at, answerAt}
 
@@ -30,18 +30,6 @@ chosenIn o = cond (eqb (o .mode) running) (cond (eqb (o .phase) 2) (some (plainR
 
 -- ---- what hears bring
 
--- the bytes that a step hears at desk d, of those sent
-abbrev pub heardBy : ℕ → List (List ℕ) → Step → Option (List ℕ)
-heardBy d l (begin e t note) = none
-heardBy d l (ask e i place out) = none
-heardBy d l (serve i k place out) = none
-heardBy d l (hear e k) = cond (eqb e d) (nth l k) none
-heardBy d l (result e) = none
-heardBy d l (drop e) = none
-heardBy d l (transfer i j amount) = none
-heardBy d l (share i place out) = none
-heardBy d l (crash i) = none
-
 -- the ledger that bytes carry
 abbrev pub ledgerIn : Config → List ℕ → Ledger
 ledgerIn c msg = receiveOf c msg .replica .ledger
@@ -50,7 +38,7 @@ ledgerIn c msg = receiveOf c msg .replica .ledger
 -- from 1 without a gap, so that what a sheet has of them is their count.
 unfoldable pub brings : Run → ℕ → ℕ → ℕ → ℕ
 brings r d k i =
-    when (nth (r .steps) k) 0
+    when (nth (map plain (r .steps)) k) 0
     (λ s. cond (accepted (answerAt r k)) (when (heardBy d (at r k .sent) s) 0 (λ msg. countOf (ledgerIn (r .config) msg) i)) 0)
 
 -- what the hears of desk d among the first k steps brought, in whatever operation

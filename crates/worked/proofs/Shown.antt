@@ -8,7 +8,7 @@ use mathlib.Core.List.{List, [], _∷_, map}
 use mathlib.Core.Option.{none, some}
 use borrow.Author.Tests.{leb-true}
 use lib.Dec.{leb}
-use lib.ListN.{length, replicate, length-replicate}
+use lib.ListN.{replicate, length-replicate}
 use Rattle.quorums.proofs.Tests.{both}
 use Rattle.config.specs.Cluster.{configOf, validOf}
 use Rattle.config.specs.declared.cluster.Config.{Config}
@@ -17,11 +17,11 @@ use Rattle.machine.specs.Calls.{done, told}
 use Rattle.machine.specs.Runs.{Step as PlainStep, begin as plain-begin, ask as plain-ask, serve as plain-serve, hear as plain-hear, result as plain-result, drop as plain-drop, transfer as plain-transfer, share as plain-share, crash as plain-crash, machine, Run as PlainRun}
 use Rattle.machine.specs.Views.{View, Ends, Chose, restartsMade, gain}
 use Rattle.machine.specs.Seen.{viewOf as plainView}
-use Rattle.machine.specs.Typed.{Bytes}
+use Rattle.machine.specs.Typed.{Bytes, TypedStep, Typed as TypedPlain}
 use Rattle.nearmiss.specs.Steps.{sale, sold, returned, written}
 use Rattle.nearmiss.proofs.Computing.{computing}
 use Rattle.nearmiss.proofs.Shown.{across, read-across, droppedWrite, read-dropped, twoRestarts, write-restarted, unwritten, read-unwritten}
-use Rattle.runs.specs.Steps.{Step, begin, ask, serve, hear, result, drop, transfer, share, crash, plain, TypedStep, Typed}
+use Rattle.runs.specs.Steps.{Step, begin, ask, serve, hear, result, drop, transfer, share, crash, plain}
 use Rattle.runs.specs.Runs.{Run, runOf}
 use Rattle.runs.specs.Seen.{viewOf}
 use Rattle.runs.proofs.Views.{view-same}
@@ -85,52 +85,44 @@ smallSteps (st ∷ l) = cond (smallStep st) (smallSteps l) false
 word : (x : ℕ) → small x ≡ true → x < 2 ^ 64
 word x e = omega (arith, leb-true x 1111 e)
 
-long : (size : ℕ) → small size ≡ true → length {A = ℕ} (replicate size 0) < 2 ^ 64
-long size e = omega (arith, word size e, length-replicate {A = ℕ} size 0)
-
 byte-list : (v : List ℕ) → bytes v ≡ true → Bytes v
 unfolding bytes
 byte-list [] e k = omega arith
 byte-list (x ∷ v) e zero = omega (arith, leb-true x 255 (both (leb x 255) (bytes v) e .0))
 byte-list (x ∷ v) e (suc k) = byte-list v (both (leb x 255) (bytes v) e .1) k
 
-zero-bytes : (n : ℕ) → Bytes (replicate n 0)
-zero-bytes zero k = omega arith
-zero-bytes (suc n) zero = omega arith
-zero-bytes (suc n) (suc k) = zero-bytes n k
-
--- small steps with buffers of zeros are ones that a call can have
-typed-filled : (st : PlainStep) → smallStep st ≡ true → TypedStep (filled st)
-typed-filled (plain-begin d t note) e =
+-- small numbers are ones that a call can have
+typed-step : (st : PlainStep) → smallStep st ≡ true → TypedStep st
+typed-step (plain-begin d t note) e =
     let a = both (small d) _ e in
     let b = both (bytes (valueOf t)) _ (a .1) in
-    ((word d (a .0), byte-list (valueOf t) (b .0), omega (arith, leb-true note 1111 (b .1))), zero-bytes 0)
-typed-filled (plain-ask d i place size) e =
+    (word d (a .0), byte-list (valueOf t) (b .0), omega (arith, leb-true note 1111 (b .1)))
+typed-step (plain-ask d i place size) e =
     let a = both (small d) _ e in
     let b = both (small i) _ (a .1) in
     let p = both (small place) _ (b .1) in
-    ((word d (a .0), word i (b .0), word place (p .0), long size (p .1)), zero-bytes size)
-typed-filled (plain-serve i k place size) e =
+    (word d (a .0), word i (b .0), word place (p .0), word size (p .1))
+typed-step (plain-serve i k place size) e =
     let a = both (small i) _ e in
     let p = both (small place) _ (a .1) in
-    ((word i (a .0), word place (p .0), long size (p .1)), zero-bytes size)
-typed-filled (plain-hear d k) e = (word d e, zero-bytes 0)
-typed-filled (plain-result d) e = (word d e, zero-bytes 0)
-typed-filled (plain-drop d) e = (word d e, zero-bytes 0)
-typed-filled (plain-transfer i j amount) e =
+    (word i (a .0), word place (p .0), word size (p .1))
+typed-step (plain-hear d k) e = word d e
+typed-step (plain-result d) e = word d e
+typed-step (plain-drop d) e = word d e
+typed-step (plain-transfer i j amount) e =
     let a = both (small i) _ e in
     let b = both (small j) _ (a .1) in
-    ((word i (a .0), word j (b .0), word amount (b .1)), zero-bytes 0)
-typed-filled (plain-share i place size) e =
+    (word i (a .0), word j (b .0), word amount (b .1))
+typed-step (plain-share i place size) e =
     let a = both (small i) _ e in
     let p = both (small place) _ (a .1) in
-    ((word i (a .0), word place (p .0), long size (p .1)), zero-bytes size)
-typed-filled (plain-crash i) e = (word i e, zero-bytes 0)
+    (word i (a .0), word place (p .0), word size (p .1))
+typed-step (plain-crash i) e = word i e
 
-all-typed : (l : List PlainStep) → smallSteps l ≡ true → Typed (map filled l)
+all-typed : (l : List PlainStep) → smallSteps l ≡ true → TypedPlain l
 unfolding smallSteps
 all-typed [] e = tt
-all-typed (st ∷ l) e = let b = both (smallStep st) (smallSteps l) e in (typed-filled st (b .0), all-typed l (b .1))
+all-typed (st ∷ l) e = let b = both (smallStep st) (smallSteps l) e in (typed-step st (b .0), all-typed l (b .1))
 
 -- ---- what the machine does, the program does
 
@@ -147,7 +139,7 @@ view-shown : (c : Config) → validOf c ≡ true → (l : List PlainStep) → sm
     → plainView (record { store = machine; config = c; steps = l }) ≡ seen (record { store = machine; config = c; steps = l })
 view-shown c valid l e =
     ap (λ z. plainView (record { store = machine; config = c; steps = z })) (sym (all-filled l))
-    ∙ sym (view-same c valid (map filled l) (all-typed l e))
+    ∙ sym (view-same c valid (map filled l) (subst TypedPlain (sym (all-filled l)) (all-typed l e)))
 
 -- ---- the runs
 

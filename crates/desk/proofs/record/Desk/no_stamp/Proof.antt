@@ -1,21 +1,11 @@
 -- `no_stamp` meets its contract: only a write needs a stamp, and it has one left while the stamp held is below the largest.
-use Prim.Native.Nat.{ℕ, _≤_, _<_}
-use mathlib.Core.Path.{_≡_}
-use mathlib.Core.Logic.{⊎-elim}
-use mathlib.Core.Bool.{not}
 use borrow.Author.Needs.{needs}
-use borrow.Author.Tests.{eq-eqb, ne-eqb, le-leb, lt-leb, lt-ltb, le-ltb}
-use lib.Dec.{leb, ltb}
-use Rattle.quorums.proofs.Tests.{le-or-lt}
+use borrow.Author.Tests.{eq-eqb, ne-eqb}
+use Rattle.quorums.proofs.Tests.{leb-not}
 use Rattle.config.specs.Cluster.{mostStamp}
 use Rattle.desk.specs.Hears.{noStamp}
 use Rattle.desk.proofs.record.Desk.no_stamp.Statement.{statement}
 use Rattle.desk.proofs.record.Desk.no_stamp.Tie as tie
-
--- a number is not below those that are no larger
-not-below : (a b : ℕ) → leb a b ≡ not (ltb b a)
-not-below a b =
-    ⊎-elim (λ (h : a ≤ b). simp (le-leb a b h, le-ltb b a h)) (λ (h : b < a). simp (lt-leb a b h, lt-ltb b a h)) (le-or-lt a b)
 
 returns : tie.Need-returns
 unfolding noStamp
@@ -31,7 +21,7 @@ returns-2 : tie.Need-returns-2
 unfolding noStamp
 returns-2 c =
     let a = c .before .before .before .before .before .before .args in
-    rw (eq-eqb _ _ (c .before .before .before .if1 .left), c .before .most-stamp .ensures) (not-below (mostStamp (a .self .config)) (a .held .stamp))
+    rw (eq-eqb _ _ (c .before .before .before .if1 .left), c .before .most-stamp .ensures) (leb-not (mostStamp (a .self .config)) (a .held .stamp))
 
 pub no-stamp-spec : {M : Type 1} → statement M
 no-stamp-spec = tie.close (tie.spec returns most-stamp-requires cast-result returns-2)
