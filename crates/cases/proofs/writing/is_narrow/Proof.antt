@@ -1,0 +1,60 @@
+-- `is_narrow` is safe: the part that is lent lies within the array, which keeps its length.
+use native.Mathlib.Omega.{arith}
+use mathlib.Core.Path.{sym, _∙_}
+use borrow.Author.Needs.{needs}
+use lib.Seq.{length-take-le, length-front}
+use Rattle.cases.proofs.writing.is_narrow.Statement.{statement}
+use Rattle.cases.proofs.writing.is_narrow.Tie as tie
+
+marked-requires : tie.Need-marked-requires
+marked-requires c κs = search needs
+
+array-borrow-prefix-space : tie.Need-array-borrow-prefix-space
+array-borrow-prefix-space c = search needs
+
+slice-aggregate-write : tie.Need-slice-aggregate-write
+slice-aggregate-write c = sym (length-take-le _ _ (omega (arith, c .before .marked .ensures)))
+
+write-requires : tie.Need-write-requires
+write-requires c κs = search needs
+
+enum-told : tie.Need-enum-told
+enum-told c = search needs
+
+enum-known-refusal : tie.Need-enum-known-refusal
+enum-known-refusal c = search needs
+
+number-requires : tie.Need-number-requires
+number-requires c κs = search needs
+
+slice-aggregate-is-marked : tie.Need-slice-aggregate-is-marked
+slice-aggregate-is-marked c = let w = c .before .before .before .before .before .before .before .write in c .before .before .before .before .before .before .before .before .before .marked .ensures ∙ sym (length-front (c .before .before .before .before .before .before .before .before .before .marked .result) (w .last .1 .1 .1 .0) (c .before .before .before .before .before .before .before .before .before .before .before .args .size) (w .kept .1 .1 .1 .0))
+
+is-marked-requires : tie.Need-is-marked-requires
+is-marked-requires c κs = search needs
+
+returns : tie.Need-returns
+returns c = search needs
+
+returns-2 : tie.Need-returns-2
+returns-2 c = search needs
+
+returns-3 : tie.Need-returns-3
+returns-3 c = search needs
+
+pub is-narrow-spec : {M : Type 1} → statement M
+is-narrow-spec =
+    tie.close
+    (tie.spec
+    marked-requires
+    array-borrow-prefix-space
+    slice-aggregate-write
+    write-requires
+    enum-told
+    enum-known-refusal
+    number-requires
+    slice-aggregate-is-marked
+    is-marked-requires
+    returns
+    returns-2
+    returns-3)

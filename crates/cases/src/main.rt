@@ -1,0 +1,115 @@
+// Drives one cluster by a script: a line of standard output for each command on a line of standard input. docs/SCRIPTS.md has the commands.
+mod buffer;
+mod cluster;
+mod command;
+mod desks;
+mod forms;
+mod line;
+mod print;
+mod queries;
+mod reading;
+mod record;
+mod servers;
+mod text;
+mod writing;
+
+use cluster::Cluster;
+use libc::STDIN_FILENO;
+use line::answer_line;
+ghost use mathlib.Core.Path.{_≡_};
+ghost use lib.ListN.{length};
+
+// The room for a line: a character more than the longest, so that one that is too long is known by its filling it.
+const LINE: usize = 8193;
+
+// What is kept between two reads: the cluster, how much of a line has come, and whether there may be more.
+struct Progress {
+    cluster: Cluster,
+    filled: usize,
+    more: bool,
+}
+
+// Answers what has come of a line.
+fn finish(cluster: Cluster, line: &[u8], filled: usize) -> Cluster {
+    if line.len() < filled {
+        return cluster;
+    }
+    answer_line(cluster, &line[..filled])
+}
+
+// Keeps a character of a line, where there is room for it, and hands back how much of the line has come.
+fn keep(line: &mut [u8], filled: usize, character: u8) -> usize
+    requires { ⌜ 8193 ≡ length (now line) ⌝ }
+    ensures { λ _. ⌜ 8193 ≡ length (now (line .exit)) ⌝ }
+{
+    if LINE <= filled {
+        return filled;
+    }
+    line[filled] = character;
+    filled + 1
+}
+
+// Takes what was read: answers each line that it ends, and keeps the rest.
+fn take(cluster: Cluster, line: &mut [u8], filled: usize, read: &[u8]) -> Progress
+    requires { ⌜ 8193 ≡ length (now line) ⌝ }
+    ensures { λ _. ⌜ 8193 ≡ length (now (line .exit)) ⌝ }
+{
+    let mut next = cluster;
+    let mut end = filled;
+    let mut k: usize = 0;
+    while k < read.len() {
+        if read[k] == b'\n' {
+            next = finish(next, line, end);
+            end = 0;
+        } else {
+            end = keep(line, end, read[k]);
+        }
+        k += 1;
+    }
+    Progress {
+        cluster: next,
+        filled: end,
+        more: true,
+    }
+}
+
+// Reads what is there, once. At the input's end the last line may lack its line feed.
+fn turn(cluster: Cluster, line: &mut [u8], filled: usize) -> Progress
+    requires { ⌜ 8193 ≡ length (now line) ⌝ }
+    ensures { λ _. ⌜ 8193 ≡ length (now (line .exit)) ⌝ }
+{
+    let mut buffer = io::buffer();
+    let got = libc::read(STDIN_FILENO, &mut buffer);
+    if got <= 0 {
+        return Progress {
+            cluster: finish(cluster, line, filled),
+            filled: 0,
+            more: false,
+        };
+    }
+    let n = io::count(got, &buffer);
+    take(cluster, line, filled, &buffer[..n])
+}
+
+fn empty_line() -> [u8; LINE]
+    ensures { λ r. ⌜ 8193 ≡ length r ⌝ }
+{
+    [0; LINE]
+}
+
+// A proved loop has to end, and nothing says that the input does. So the loop counts its turns down, from a number that no run uses up.
+fn main() {
+    let mut line = empty_line();
+    let mut cluster = Cluster::fresh(0, 0);
+    let mut filled: usize = 0;
+    let mut turns = u64::MAX;
+    while turns > 0 {
+        let next = turn(cluster, &mut line, filled);
+        if !next.more {
+            return;
+        }
+        cluster = next.cluster;
+        filled = next.filled;
+        turns -= 1;
+    }
+}
