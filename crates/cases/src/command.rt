@@ -1,15 +1,16 @@
 // Commands: what a line of a script asks for. docs/SCRIPTS.md has the lines.
 use super::forms::ask_form;
 use super::forms::begin_form;
+use super::forms::crash_form;
 use super::forms::desk_form;
+use super::forms::hear_form;
 use super::forms::house_form;
 use super::forms::message_form;
 use super::forms::named_form;
-use super::forms::of_message;
+use super::forms::query_form;
 use super::forms::quorum_form;
 use super::forms::record_form;
 use super::forms::serve_form;
-use super::forms::server_form;
 use super::forms::share_form;
 use super::forms::transfer_form;
 use super::forms::unreadable;
@@ -76,13 +77,13 @@ pub(crate) fn parse(line: &[u8]) -> Form {
         return ask_form(line);
     }
     if same(name, b"hear") {
-        return desk_form(line, DeskCall::Hear, true);
+        return hear_form(line);
     }
     if same(name, b"result") {
-        return desk_form(line, DeskCall::Result, false);
+        return desk_form(line, DeskCall::Result);
     }
     if same(name, b"drop") {
-        return desk_form(line, DeskCall::Drop, false);
+        return desk_form(line, DeskCall::Drop);
     }
     if same(name, b"record") {
         return record_form(line);
@@ -102,7 +103,7 @@ fn parse_server(name: &[u8], line: &[u8]) -> Form {
         return transfer_form(line);
     }
     if same(name, b"crash") {
-        return server_form(line, ServerCall::Crash);
+        return crash_form(line);
     }
     parse_query(name, line)
 }
@@ -110,13 +111,13 @@ fn parse_server(name: &[u8], line: &[u8]) -> Form {
 // The commands that name no party.
 fn parse_query(name: &[u8], line: &[u8]) -> Form {
     if same(name, b"check") {
-        return of_message(Query::Check, 1);
+        return query_form(Query::Check);
     }
     if same(name, b"seats") {
-        return of_message(Query::Seats, 1);
+        return query_form(Query::Seats);
     }
     if same(name, b"value") {
-        return of_message(Query::Value, 1);
+        return query_form(Query::Value);
     }
     if same(name, b"weight") {
         return weight_form(line);

@@ -3,7 +3,6 @@ use super::buffer::lent;
 use super::buffer::marked;
 use super::buffer::written;
 use super::command::DeskCall;
-use super::print::hex;
 use super::print::item;
 use super::print::refusal;
 use super::print::verdict;

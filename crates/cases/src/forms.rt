@@ -34,12 +34,26 @@ fn read_numbers(line: &[u8], before: usize, count: usize) -> Numbers
     Numbers { ok: true, x }
 }
 
-pub(crate) fn unreadable() -> Form {
+// A command that is all of its line.
+fn bare(command: Command, words: usize) -> Form {
     Form {
-        command: Command::Unreadable,
-        words: 0,
+        command,
+        words,
         bytes: false,
     }
+}
+
+// A command whose bytes follow the first `words` words.
+fn with_hex(command: Command, words: usize) -> Form {
+    Form {
+        command,
+        words,
+        bytes: true,
+    }
+}
+
+pub(crate) fn unreadable() -> Form {
+    bare(Command::Unreadable, 0)
 }
 
 // house N F
@@ -48,72 +62,32 @@ pub(crate) fn house_form(line: &[u8]) -> Form {
     if !got.ok {
         return unreadable();
     }
-    Form {
-        command: Command::House {
-            n: got.x[0],
-            f: got.x[1],
-        },
-        words: 3,
-        bytes: false,
-    }
-}
-
-// message N F HEX
-pub(crate) fn message_form(line: &[u8]) -> Form {
-    let got = read_numbers(line, 1, 2);
-    if !got.ok {
-        return unreadable();
-    }
-    Form {
-        command: Command::Message {
-            n: got.x[0],
-            f: got.x[1],
-        },
-        words: 3,
-        bytes: true,
-    }
-}
-
-// A call of the desk that the second word names, with no other number.
-pub(crate) fn desk_form(line: &[u8], call: DeskCall, bytes: bool) -> Form {
-    let got = read_numbers(line, 1, 1);
-    if !got.ok {
-        return unreadable();
-    }
-    Form {
-        command: Command::Desk(got.x[0], call),
-        words: 2,
-        bytes,
-    }
+    let n = got.x[0];
+    let f = got.x[1];
+    bare(Command::House { n, f }, 3)
 }
 
 // begin D read NOTE, begin D write NOTE HEX
 pub(crate) fn begin_form(line: &[u8]) -> Form {
-    let desk = read_numbers(line, 1, 1);
-    let note = read_numbers(line, 3, 1);
-    if !desk.ok {
+    let named = read_numbers(line, 1, 1);
+    let noted = read_numbers(line, 3, 1);
+    if !named.ok {
         return unreadable();
     }
-    if !note.ok {
+    if !noted.ok {
         return unreadable();
     }
-    if 4294967295 < note.x[0] {
+    let desk = named.x[0];
+    let note = noted.x[0];
+    if 4294967295 < note {
         return unreadable();
     }
     let kind = nth_word(line, 2);
     if same(kind, b"read") {
-        return Form {
-            command: Command::Desk(desk.x[0], DeskCall::BeginRead(note.x[0] as u32)),
-            words: 4,
-            bytes: false,
-        };
+        return bare(Command::Desk(desk, DeskCall::BeginRead(note as u32)), 4);
     }
     if same(kind, b"write") {
-        return Form {
-            command: Command::Desk(desk.x[0], DeskCall::BeginWrite(note.x[0] as u32)),
-            words: 4,
-            bytes: true,
-        };
+        return with_hex(Command::Desk(desk, DeskCall::BeginWrite(note as u32)), 4);
     }
     unreadable()
 }
@@ -124,31 +98,31 @@ pub(crate) fn ask_form(line: &[u8]) -> Form {
     if !got.ok {
         return unreadable();
     }
-    Form {
-        command: Command::Desk(
-            got.x[0],
-            DeskCall::Ask {
-                server: got.x[1],
-                at: got.x[2],
-                len: got.x[3],
-            },
-        ),
-        words: 5,
-        bytes: false,
-    }
+    let server = got.x[1];
+    let at = got.x[2];
+    let len = got.x[3];
+    bare(
+        Command::Desk(got.x[0], DeskCall::Ask { server, at, len }),
+        5,
+    )
 }
 
-// A call of the server that the second word names, with no other number.
-pub(crate) fn server_form(line: &[u8], call: ServerCall) -> Form {
+// hear D HEX
+pub(crate) fn hear_form(line: &[u8]) -> Form {
     let got = read_numbers(line, 1, 1);
     if !got.ok {
         return unreadable();
     }
-    Form {
-        command: Command::Server(got.x[0], call),
-        words: 2,
-        bytes: false,
+    with_hex(Command::Desk(got.x[0], DeskCall::Hear), 2)
+}
+
+// result D, drop D
+pub(crate) fn desk_form(line: &[u8], call: DeskCall) -> Form {
+    let got = read_numbers(line, 1, 1);
+    if !got.ok {
+        return unreadable();
     }
+    bare(Command::Desk(got.x[0], call), 2)
 }
 
 // share I AT LEN
@@ -157,17 +131,9 @@ pub(crate) fn share_form(line: &[u8]) -> Form {
     if !got.ok {
         return unreadable();
     }
-    Form {
-        command: Command::Server(
-            got.x[0],
-            ServerCall::Share {
-                at: got.x[1],
-                len: got.x[2],
-            },
-        ),
-        words: 4,
-        bytes: false,
-    }
+    let at = got.x[1];
+    let len = got.x[2];
+    bare(Command::Server(got.x[0], ServerCall::Share { at, len }), 4)
 }
 
 // serve I AT LEN HEX
@@ -176,17 +142,9 @@ pub(crate) fn serve_form(line: &[u8]) -> Form {
     if !got.ok {
         return unreadable();
     }
-    Form {
-        command: Command::Server(
-            got.x[0],
-            ServerCall::Serve {
-                at: got.x[1],
-                len: got.x[2],
-            },
-        ),
-        words: 4,
-        bytes: true,
-    }
+    let at = got.x[1];
+    let len = got.x[2];
+    with_hex(Command::Server(got.x[0], ServerCall::Serve { at, len }), 4)
 }
 
 // transfer I J AMOUNT
@@ -195,17 +153,21 @@ pub(crate) fn transfer_form(line: &[u8]) -> Form {
     if !got.ok {
         return unreadable();
     }
-    Form {
-        command: Command::Server(
-            got.x[0],
-            ServerCall::Transfer {
-                taker: got.x[1],
-                amount: got.x[2],
-            },
-        ),
-        words: 4,
-        bytes: false,
+    let taker = got.x[1];
+    let amount = got.x[2];
+    bare(
+        Command::Server(got.x[0], ServerCall::Transfer { taker, amount }),
+        4,
+    )
+}
+
+// crash I
+pub(crate) fn crash_form(line: &[u8]) -> Form {
+    let got = read_numbers(line, 1, 1);
+    if !got.ok {
+        return unreadable();
     }
+    bare(Command::Server(got.x[0], ServerCall::Crash), 2)
 }
 
 // record server I, record desk D
@@ -216,29 +178,17 @@ pub(crate) fn record_form(line: &[u8]) -> Form {
     }
     let party = nth_word(line, 1);
     if same(party, b"server") {
-        return Form {
-            command: Command::Server(got.x[0], ServerCall::Record),
-            words: 3,
-            bytes: false,
-        };
+        return bare(Command::Server(got.x[0], ServerCall::Record), 3);
     }
     if same(party, b"desk") {
-        return Form {
-            command: Command::Desk(got.x[0], DeskCall::Record),
-            words: 3,
-            bytes: false,
-        };
+        return bare(Command::Desk(got.x[0], DeskCall::Record), 3);
     }
     unreadable()
 }
 
-// A question about the bytes that follow the first `words` words.
-pub(crate) fn of_message(query: Query, words: usize) -> Form {
-    Form {
-        command: Command::Query(query),
-        words,
-        bytes: true,
-    }
+// check HEX, seats HEX, value HEX
+pub(crate) fn query_form(query: Query) -> Form {
+    with_hex(Command::Query(query), 1)
 }
 
 // weight S HEX
@@ -247,7 +197,7 @@ pub(crate) fn weight_form(line: &[u8]) -> Form {
     if !got.ok {
         return unreadable();
     }
-    of_message(Query::Weight(got.x[0]), 2)
+    with_hex(Command::Query(Query::Weight(got.x[0])), 2)
 }
 
 // quorum MAP HEX
@@ -256,7 +206,7 @@ pub(crate) fn quorum_form(line: &[u8]) -> Form {
     if !got.ok {
         return unreadable();
     }
-    of_message(Query::Quorum(got.x[0]), 2)
+    with_hex(Command::Query(Query::Quorum(got.x[0])), 2)
 }
 
 // named MAP
@@ -265,12 +215,20 @@ pub(crate) fn named_form(line: &[u8]) -> Form {
     if !got.ok {
         return unreadable();
     }
-    if 65535 < got.x[0] {
+    let map = got.x[0];
+    if 65535 < map {
         return unreadable();
     }
-    Form {
-        command: Command::Query(Query::Named(got.x[0] as u16)),
-        words: 2,
-        bytes: false,
+    bare(Command::Query(Query::Named(map as u16)), 2)
+}
+
+// message N F HEX
+pub(crate) fn message_form(line: &[u8]) -> Form {
+    let got = read_numbers(line, 1, 2);
+    if !got.ok {
+        return unreadable();
     }
+    let n = got.x[0];
+    let f = got.x[1];
+    with_hex(Command::Message { n, f }, 3)
 }
