@@ -1,7 +1,5 @@
 // The cluster that a script drives: its servers, and the desks that it has named.
-use super::print::verdict;
 use config::Config;
-use config::Verdict;
 use desk::Desk;
 use server::Server;
 
@@ -12,13 +10,6 @@ pub(crate) struct Cluster {
     pub crashed: [bool; 16],
     pub numbers: [u64; 16],
     pub desks: [Desk; 16],
-}
-
-// What opening a desk answers, the place where it stands, or 16 where there is none for it, and the cluster with it.
-pub(crate) struct Seated {
-    pub verdict: Verdict,
-    pub place: usize,
-    pub cluster: Cluster,
 }
 
 impl Cluster {
@@ -35,50 +26,6 @@ impl Cluster {
             desks: [desk; 16],
         }
     }
-
-    // house N F: a fresh cluster, or this one where the numbers are refused.
-    pub(crate) fn reopened(self, n: u64, f: u64) -> Cluster {
-        let answer = Server::open(n, f, 0);
-        let told = answer.verdict;
-        verdict(told);
-        match told {
-            Verdict::Accepted => Cluster::fresh(n, f),
-            Verdict::Refused(_) => self,
-        }
-    }
-
-    // The cluster in which a desk is open.
-    pub(crate) fn seated(mut self, number: u64) -> Seated {
-        let config = self.config;
-        let opened = Desk::open(config.n, config.f, number);
-        let told = opened.verdict;
-        let desk = opened.desk;
-        if let Verdict::Refused(r) = told {
-            return Seated {
-                verdict: Verdict::Refused(r),
-                place: 16,
-                cluster: self,
-            };
-        }
-        let at = first_place(self.numbers, number);
-        if at < 16 {
-            return Seated {
-                verdict: Verdict::Accepted,
-                place: at,
-                cluster: self,
-            };
-        }
-        let free = first_place(self.numbers, 0);
-        if free < 16 {
-            self.numbers[free] = number;
-            self.desks[free] = desk;
-        }
-        Seated {
-            verdict: Verdict::Accepted,
-            place: free,
-            cluster: self,
-        }
-    }
 }
 
 fn fresh_servers(n: u64, f: u64) -> [Server; 16] {
@@ -93,6 +40,15 @@ fn fresh_servers(n: u64, f: u64) -> [Server; 16] {
         i += 1;
     }
     servers
+}
+
+// The place of a desk, or the first that is free for it, or 16.
+pub(crate) fn place_for(numbers: [u64; 16], number: u64) -> usize {
+    let k = first_place(numbers, number);
+    if k < 16 {
+        return k;
+    }
+    first_place(numbers, 0)
 }
 
 // The first place that has a number, or 16.

@@ -48,12 +48,15 @@ pub(crate) enum Query {
     Value,
 }
 
+// What a line comes to. It may also say nothing, be past the program's bounds, or not be readable.
 pub(crate) enum Command {
     House { n: u64, f: u64 },
     Desk(u64, DeskCall),
     Server(u64, ServerCall),
     Query(Query),
     Message { n: u64, f: u64 },
+    Nothing,
+    Beyond,
     Unreadable,
 }
 

@@ -9,24 +9,24 @@ mod print;
 mod queries;
 mod reading;
 mod record;
+mod run;
 mod servers;
 mod text;
 mod writing;
 
 use cluster::Cluster;
 use libc::STDIN_FILENO;
-use line::answer_line;
+use run::answer_line;
 ghost use mathlib.Core.Path.{_≡_};
 ghost use lib.ListN.{length};
 
 // The room for a line: a character more than the longest, so that one that is too long is known by its filling it.
 const LINE: usize = 8193;
 
-// What is kept between two reads: the cluster, how much of a line has come, and whether there may be more.
-struct Progress {
-    cluster: Cluster,
-    filled: usize,
-    more: bool,
+fn empty_line() -> [u8; LINE]
+    ensures { λ r. ⌜ 8193 ≡ length r ⌝ }
+{
+    [0; LINE]
 }
 
 // Answers what has come of a line.
@@ -49,13 +49,13 @@ fn keep(line: &mut [u8], filled: usize, character: u8) -> usize
     filled + 1
 }
 
-// Takes what was read: answers each line that it ends, and keeps the rest.
-fn take(cluster: Cluster, line: &mut [u8], filled: usize, read: &[u8]) -> Progress
+// Takes what was read: answers each line that it ends, and keeps the rest. `filled` is how much of a line has come.
+fn take(cluster: Cluster, line: &mut [u8], filled: &mut usize, read: &[u8]) -> Cluster
     requires { ⌜ 8193 ≡ length (now line) ⌝ }
     ensures { λ _. ⌜ 8193 ≡ length (now (line .exit)) ⌝ }
 {
     let mut next = cluster;
-    let mut end = filled;
+    let mut end = *filled;
     let mut k: usize = 0;
     while k < read.len() {
         if read[k] == b'\n' {
@@ -66,50 +66,26 @@ fn take(cluster: Cluster, line: &mut [u8], filled: usize, read: &[u8]) -> Progre
         }
         k += 1;
     }
-    Progress {
-        cluster: next,
-        filled: end,
-        more: true,
-    }
+    *filled = end;
+    next
 }
 
-// Reads what is there, once. At the input's end the last line may lack its line feed.
-fn turn(cluster: Cluster, line: &mut [u8], filled: usize) -> Progress
-    requires { ⌜ 8193 ≡ length (now line) ⌝ }
-    ensures { λ _. ⌜ 8193 ≡ length (now (line .exit)) ⌝ }
-{
-    let mut buffer = io::buffer();
-    let got = libc::read(STDIN_FILENO, &mut buffer);
-    if got <= 0 {
-        return Progress {
-            cluster: finish(cluster, line, filled),
-            filled: 0,
-            more: false,
-        };
-    }
-    let n = io::count(got, &buffer);
-    take(cluster, line, filled, &buffer[..n])
-}
-
-fn empty_line() -> [u8; LINE]
-    ensures { λ r. ⌜ 8193 ≡ length r ⌝ }
-{
-    [0; LINE]
-}
-
-// A proved loop has to end, and nothing says that the input does. So the loop counts its turns down, from a number that no run uses up.
+// Reads what is there, once. A proved loop has to end, and nothing says that the input does: so the loop counts its turns down, from a number that no
+// run uses up. At the input's end the last line may lack its line feed.
 fn main() {
     let mut line = empty_line();
-    let mut cluster = Cluster::fresh(0, 0);
     let mut filled: usize = 0;
+    let mut cluster = Cluster::fresh(0, 0);
     let mut turns = u64::MAX;
     while turns > 0 {
-        let next = turn(cluster, &mut line, filled);
-        if !next.more {
+        let mut buffer = io::buffer();
+        let got = libc::read(STDIN_FILENO, &mut buffer);
+        if got <= 0 {
+            finish(cluster, &line, filled);
             return;
         }
-        cluster = next.cluster;
-        filled = next.filled;
+        let n = io::count(got, &buffer);
+        cluster = take(cluster, &mut line, &mut filled, &buffer[..n]);
         turns -= 1;
     }
 }

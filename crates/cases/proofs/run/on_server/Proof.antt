@@ -3,8 +3,8 @@ use mathlib.Core.Path.{sym, _∙_}
 use borrow.Author.Tests.{not-false}
 use Rattle.config.proofs.Clusters.{server-small}
 use borrow.Author.Needs.{needs}
-use Rattle.cases.proofs.line.on_server.Statement.{statement}
-use Rattle.cases.proofs.line.on_server.Tie as tie
+use Rattle.cases.proofs.run.on_server.Statement.{statement}
+use Rattle.cases.proofs.run.on_server.Tie as tie
 
 has-requires : tie.Need-has-requires
 has-requires c κs = search needs
