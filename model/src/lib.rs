@@ -21,3 +21,5 @@ pub mod damage;
 pub mod lawful;
 pub mod patch;
 pub mod random;
+
+pub mod machine;
