@@ -23,3 +23,4 @@ pub mod patch;
 pub mod random;
 
 pub mod machine;
+pub mod runs;

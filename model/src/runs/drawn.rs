@@ -1,0 +1,92 @@
+//! A run, drawn from a seed and its number by what a store answers.
+
+use super::pace::Pace;
+use super::player::{Player, ROOMY};
+use super::script::{Entry, Source, Turn};
+use super::store::Store;
+use crate::machine::command::Command;
+use crate::machine::desk::Task;
+use crate::random::Random;
+
+/// A run that was played: its script, and what the store answered.
+pub struct Run {
+    pub entries: Vec<Entry>,
+    pub turns: Vec<Turn>,
+    /// The steps of the store among them.
+    pub steps: u64,
+}
+
+/// Plays the run of this number among those of the seed.
+pub fn draw(seed: u64, number: u64, store: &mut dyn Store) -> Run {
+    let mut random = Random::of_case(seed, number);
+    let pace = Pace::draw(&mut random, number);
+    let (n, f, steps) = (pace.n, pace.f, pace.steps);
+    let mut player = Player::new(random, pace, store);
+    if player.pace.early {
+        early(&mut player);
+    }
+    player.give(Command::House { n, f });
+    // Choices that lead to no line are bounded too.
+    let mut choices = 0;
+    while player.steps < steps && choices < 20 * steps {
+        player.happen();
+        choices += 1;
+        // Seldom a new cluster takes the place of the old.
+        if player.random.one_in(4_000) {
+            player.give(Command::House { n, f });
+        }
+    }
+    Run {
+        entries: player.entries,
+        turns: player.turns,
+        steps: player.steps,
+    }
+}
+
+/// Lines before there is a house.
+fn early(player: &mut Player) {
+    let desk = player.any_desk();
+    let server = player.any_server();
+    let message = Source::Bytes(vec![0, 3]);
+    let commands = [
+        Command::Begin {
+            desk,
+            task: Task::Read,
+            note: 0,
+        },
+        Command::Ask {
+            desk,
+            server,
+            room: ROOMY,
+        },
+        Command::Share {
+            server,
+            room: ROOMY,
+        },
+        Command::Serve {
+            server,
+            room: ROOMY,
+            message: message.clone(),
+        },
+        Command::Hear { desk, message },
+        Command::Result { desk },
+        Command::Drop { desk },
+        Command::Transfer {
+            giver: server,
+            taker: 0,
+            amount: 1,
+        },
+        Command::Crash { server },
+        Command::RecordServer { server },
+        Command::RecordDesk { desk },
+        Command::House { n: 0, f: 0 },
+    ];
+    for command in commands {
+        if player.random.one_in(2) {
+            player.give(command);
+        }
+    }
+    for _ in 0..player.random.below(3) {
+        player.of_message();
+    }
+}

@@ -1,0 +1,134 @@
+//! Lines of a run that are no steps: the calls that take a message alone, lines
+//! that cannot be read or are past the program's bounds, comments, and houses
+//! that are refused. Nothing in the cluster may change by them.
+
+use super::player::Player;
+use super::script::Source;
+use crate::cases::Case;
+use crate::machine::command::Command;
+use crate::machine::program::LONGEST_LINE;
+use crate::machine::server::Room;
+use crate::random::{bad_cluster, block, server_map};
+
+/// Lines that cannot be read.
+const UNREADABLE: [&str; 24] = [
+    "hello",
+    "house",
+    "house 5",
+    "house 5 1 0",
+    "house five 1",
+    "house 5 -1",
+    "house 18446744073709551616 0",
+    "begin 1",
+    "begin 1 sell 0",
+    "begin 1 read",
+    "begin 1 read 4294967296",
+    "begin 1 write 0",
+    "begin 1 write 0 0",
+    "ask 1 0 0",
+    "ask 1 0 0 0 0",
+    "share 0x0 0 0",
+    "serve 0 0 1111",
+    "hear 1",
+    "hear 1 0G",
+    "hear 1 00 -",
+    "named 65536",
+    "record house 1",
+    "RESULT 1",
+    "result 1 ;",
+];
+
+/// Lines without a word.
+const WORDLESS: [&str; 5] = ["", "   ", "\t\r", "# begin 1 read 0", "  # - "];
+
+impl Player<'_> {
+    pub fn help(&mut self) {
+        match self.random.below(8) {
+            0 => {
+                let line = *self.random.pick(&UNREADABLE);
+                self.give(Command::Text(line.to_string()));
+            }
+            1 => {
+                let line = *self.random.pick(&WORDLESS);
+                self.give(Command::Text(line.to_string()));
+            }
+            2 => self.past_bounds(),
+            3 => {
+                let (n, f) = bad_cluster(&mut self.random);
+                self.give(Command::House { n, f });
+            }
+            4 => self.show(),
+            _ => self.of_message(),
+        }
+    }
+
+    /// The calls that take a message alone, on one that was sent or on any.
+    pub fn of_message(&mut self) {
+        let case = Case::draw(self.random.word(), 0);
+        let sent = self.turns.iter().rev().take(40).find_map(|turn| turn.sent());
+        let bytes = match sent {
+            Some(bytes) if !self.random.one_in(3) => bytes,
+            _ => case.message,
+        };
+        let command = match self.random.below(6) {
+            0 => Command::Check { bytes },
+            1 => {
+                let server = case.server;
+                Command::Weight { server, bytes }
+            }
+            2 => {
+                let map = server_map(&mut self.random, self.known.n());
+                Command::Quorum { map, bytes }
+            }
+            3 => Command::Seats {
+                bytes: block(&mut self.random),
+            },
+            4 => Command::Named {
+                map: server_map(&mut self.random, self.known.n()) as u16,
+            },
+            _ => Command::Value { bytes },
+        };
+        self.give(command);
+    }
+
+    /// `bounds`, and just within.
+    fn past_bounds(&mut self) {
+        let server = self.any_server();
+        let length = LONGEST_LINE - self.random.index(2) + self.random.index(3);
+        let command: Command<Source> = match self.random.below(5) {
+            0 => Command::Share {
+                server,
+                room: Room {
+                    at: 0,
+                    len: *self.random.pick(&[2_049, 4_096, u64::MAX]),
+                },
+            },
+            1 => Command::Seats {
+                bytes: self.random.bytes(2_049),
+            },
+            2 => Command::Value {
+                bytes: self.random.bytes(2_048),
+            },
+            3 => Command::Text(filled("named 1 #", length)),
+            _ => Command::Text(filled("what is this ", length)),
+        };
+        self.give(command);
+    }
+
+    fn show(&mut self) {
+        if self.random.one_in(2) {
+            let server = self.any_server();
+            self.give(Command::RecordServer { server });
+        } else {
+            let desk = self.any_desk();
+            self.give(Command::RecordDesk { desk });
+        }
+    }
+}
+
+/// A line of so many characters.
+fn filled(front: &str, length: usize) -> String {
+    let mut line = front.to_string();
+    line.extend(std::iter::repeat_n('x', length - front.len()));
+    line
+}

@@ -1,0 +1,23 @@
+//! Long random runs of a store: paper 01, "The runs of demand 3". A run is drawn
+//! from a seed and its number, by what the store answers; every answer is
+//! compared with the plain machine's, and an observer who sees the lines and
+//! answers alone checks the clauses of demand 3. A run that fails is shrunk to
+//! a short script.
+
+pub mod check;
+pub mod dress;
+pub mod drawn;
+pub mod helper;
+pub mod known;
+pub mod misuse;
+pub mod observer;
+pub mod operations;
+pub mod pace;
+pub mod player;
+pub mod process;
+pub mod script;
+pub mod seen;
+pub mod shrink;
+pub mod store;
+pub mod tally;
+pub mod traffic;

@@ -1,0 +1,170 @@
+//! Somebody who sees the lines and the answers alone, and checks the clauses of
+//! demand 3 on them: the operations' clauses, and the sheets, that on every
+//! sheet held or sent the weights total W, each is above the floor and any n − f
+//! servers are a quorum (paper 01, "Sheets").
+
+use std::fmt;
+
+use super::operations::{Breach, Operations};
+use super::script::Turn;
+use super::seen::{refused, shown, told, Shown};
+use crate::format::read;
+use crate::machine::command::Command;
+use crate::machine::desk::Task;
+use crate::weights::{Config, START};
+
+/// What demand 3 asks of a run.
+#[derive(Clone, Copy, Debug, PartialEq, Eq, PartialOrd, Ord, Hash)]
+pub enum Clause {
+    /// Every answer and every byte sent is the plain machine's.
+    Equality,
+    Order,
+    Values,
+    Restarts,
+    Sheets,
+}
+
+impl fmt::Display for Clause {
+    fn fmt(&self, f: &mut fmt::Formatter) -> fmt::Result {
+        write!(f, "{}", format!("{self:?}").to_lowercase())
+    }
+}
+
+/// A clause that a run breaks, the line that shows it, and how, in words.
+#[derive(Clone, Debug)]
+pub struct Found {
+    pub clause: Clause,
+    pub number: usize,
+    pub words: String,
+}
+
+/// What was seen of the cluster that stands now.
+#[derive(Default)]
+pub struct Observer {
+    config: Option<Config>,
+    operations: Operations,
+    last_line: usize,
+}
+
+impl Observer {
+    /// Looks at a line and its answer.
+    pub fn see(&mut self, turn: &Turn) -> Vec<Found> {
+        self.last_line = turn.number;
+        let breaches = self.breaches(turn);
+        let found = breaches.into_iter().map(|(clause, words)| Found {
+            clause,
+            number: turn.number,
+            words,
+        });
+        found.collect()
+    }
+
+    /// What can be said at the end of the list only.
+    pub fn close(&self) -> Option<Found> {
+        let (clause, words) = self.operations.values()?;
+        Some(Found {
+            clause,
+            number: self.last_line,
+            words,
+        })
+    }
+
+    pub fn operations(&self) -> &Operations {
+        &self.operations
+    }
+
+    fn breaches(&mut self, turn: &Turn) -> Vec<Breach> {
+        let answer = turn.answer();
+        if let Command::House { n, f } = turn.command {
+            if answer == "ok" {
+                let before = self.operations.values();
+                self.config = Config::new(n, f).ok();
+                self.operations = Operations::default();
+                return before.into_iter().collect();
+            }
+        }
+        let Some(config) = self.config else {
+            return Vec::new();
+        };
+        if refused(answer).is_some() {
+            return Vec::new();
+        }
+        match &turn.command {
+            Command::Begin { desk, task, .. } if answer == "ok" => {
+                let writes = match task {
+                    Task::Read => None,
+                    Task::Write(value) => Some(value.to_vec()),
+                };
+                self.operations.begin(*desk as u16, writes);
+                Vec::new()
+            }
+            Command::Drop { desk } if answer == "ok" => {
+                self.operations.drop(*desk as u16);
+                Vec::new()
+            }
+            Command::Hear { desk, message } if answer == "ok" => {
+                if let Ok(reply) = read(config, &message.bytes) {
+                    self.operations.hear(*desk as u16, &reply.ledger);
+                }
+                Vec::new()
+            }
+            Command::Result { desk } => match told(answer) {
+                Some(told) => self.operations.told(*desk as u16, &told),
+                None => Vec::new(),
+            },
+            Command::RecordServer { .. } => match shown(answer) {
+                Some(shown) => sound(config, &shown).into_iter().collect(),
+                None => Vec::new(),
+            },
+            Command::RecordDesk { desk } => match shown(answer) {
+                Some(shown) => {
+                    let desk_shown = shown.desk.as_ref().expect("the line is a desk's");
+                    let mut breaches = self.operations.show(*desk as u16, desk_shown);
+                    breaches.extend(sound(config, &shown));
+                    breaches
+                }
+                None => Vec::new(),
+            },
+            _ => match turn.sent() {
+                Some(bytes) => sound_message(config, &bytes).into_iter().collect(),
+                None => Vec::new(),
+            },
+        }
+    }
+}
+
+/// The clause of sheets, on a record.
+fn sound(config: Config, shown: &Shown) -> Option<Breach> {
+    let weights = shown.ledger.weights();
+    if shown.weights != weights[..config.n()] {
+        let words = "a record's weights are not those of its cells".to_string();
+        return Some((Clause::Sheets, words));
+    }
+    sound_weights(config, &shown.weights)
+}
+
+/// The same on a message.
+fn sound_message(config: Config, bytes: &[u8]) -> Option<Breach> {
+    match read(config, bytes) {
+        Ok(message) => sound_weights(config, &message.ledger.weights()[..config.n()]),
+        Err(fault) => {
+            let words = format!("a message that was sent is refused: {}", fault.place.words());
+            Some((Clause::Sheets, words))
+        }
+    }
+}
+
+fn sound_weights(config: Config, weights: &[i64]) -> Option<Breach> {
+    let total: i64 = weights.iter().sum();
+    let light = weights.iter().any(|&weight| !config.above_floor(weight));
+    // The lightest n − f servers are a quorum if any are.
+    let mut sorted = weights.to_vec();
+    sorted.sort_unstable();
+    let lightest: i64 = sorted[..config.n() - config.f()].iter().sum();
+    let total_right = total == START * config.n() as i64;
+    if total_right && !light && 2 * lightest > config.total() {
+        return None;
+    }
+    let words = format!("a sheet has the weights {weights:?}");
+    Some((Clause::Sheets, words))
+}

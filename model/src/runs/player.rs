@@ -1,0 +1,122 @@
+//! The player of a run: gives a store one line after the other and keeps the
+//! script, the turns and what is known from the answers.
+
+use super::known::{Known, Post};
+use super::pace::Pace;
+use super::script::{Entry, Source, Stage, Turn};
+use super::store::Store;
+use crate::machine::command::Command;
+use crate::machine::server::Room;
+use crate::random::Random;
+use crate::weights::Config;
+
+/// A buffer with room for every message.
+pub const ROOMY: Room = Room { at: 0, len: 1_111 };
+
+pub struct Player<'a> {
+    pub random: Random,
+    pub pace: Pace,
+    pub known: Known,
+    pub entries: Vec<Entry>,
+    pub turns: Vec<Turn>,
+    /// Steps of the store so far.
+    pub steps: u64,
+    stage: Stage<'a>,
+}
+
+impl<'a> Player<'a> {
+    pub fn new(random: Random, pace: Pace, store: &'a mut dyn Store) -> Player<'a> {
+        let config = Config::new(pace.n, pace.f).expect("the pair is one of the 72");
+        Player {
+            random,
+            pace,
+            known: Known::new(config),
+            entries: Vec::new(),
+            turns: Vec::new(),
+            steps: 0,
+            stage: Stage::new(store),
+        }
+    }
+
+    /// Gives the store a line. What it sent, if anything, is not on its way yet.
+    pub fn give(&mut self, command: Command<Source>) -> (String, Option<Post>) {
+        let text = matches!(command, Command::Text(_));
+        let dress = if self.pace.dressed && !text && self.random.one_in(4) {
+            self.random.word()
+        } else {
+            0
+        };
+        let entry = Entry {
+            number: self.entries.len(),
+            command,
+            dress,
+        };
+        let Some(turn) = self.stage.play(&entry) else {
+            return (String::new(), None);
+        };
+        if let (Command::House { n, f }, "ok") = (&turn.command, turn.answer()) {
+            let config = Config::new(*n, *f).expect("it was accepted");
+            self.known = Known::new(config);
+        }
+        let post = self.known.see(&turn);
+        self.steps += u64::from(turn.is_step());
+        let answer = turn.answer().to_string();
+        self.entries.push(entry);
+        self.turns.push(turn);
+        (answer, post)
+    }
+
+    /// True so often out of 1,000.
+    pub fn chance(&mut self, rate: u64) -> bool {
+        self.random.below(1_000) < rate
+    }
+
+    /// One of the run's desks.
+    pub fn any_desk(&mut self) -> u64 {
+        *self.random.pick(&self.pace.desks)
+    }
+
+    pub fn any_server(&mut self) -> u64 {
+        let n = self.known.n();
+        self.random.below(n)
+    }
+
+    /// A desk hears a message; if it takes it, its record is shown.
+    pub fn hear(&mut self, desk: u64, line: usize) {
+        let message = Source::Line(line);
+        let (answer, _) = self.give(Command::Hear { desk, message });
+        if answer == "ok" {
+            self.give(Command::RecordDesk { desk });
+        }
+    }
+
+    /// A server takes a message; a reply goes on its way.
+    pub fn serve(&mut self, server: u64, line: usize) {
+        let room = self.room();
+        let message = Source::Line(line);
+        let (answer, post) = self.give(Command::Serve {
+            server,
+            room,
+            message,
+        });
+        self.known.flying.extend(post);
+        if answer == "ok" {
+            self.give(Command::RecordServer { server });
+        }
+    }
+
+    /// A buffer, most often from place 0, always with room for any message.
+    pub fn room(&mut self) -> Room {
+        match self.random.below(8) {
+            0 => Room {
+                at: self.random.within(1, 937),
+                len: 2_048,
+            },
+            1 => Room {
+                at: 0,
+                len: self.random.within(1_111, 2_048),
+            },
+            _ => ROOMY,
+        }
+    }
+}
