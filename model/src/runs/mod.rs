@@ -21,3 +21,4 @@ pub mod shrink;
 pub mod store;
 pub mod tally;
 pub mod traffic;
+pub mod wrong;
