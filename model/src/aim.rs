@@ -3,7 +3,7 @@
 //! places are those of paper 01's "Checks". A second place may be aimed at in
 //! the same message, to see that the earlier test decides.
 
-use crate::format::{field, Kind};
+use crate::format::{field, Kind, Message};
 use crate::lawful;
 use crate::patch::{apply, Patch, Target};
 use crate::place::Place;
@@ -52,6 +52,29 @@ pub fn aimed(random: &mut Random, place: Place, also: Option<Place>) -> Aimed {
             };
         }
     }
+}
+
+/// The bytes of a lawful message with a cause of refusal at the place, or `None`
+/// if the message lacks a part for it. The house and the weights are no part.
+pub fn aimed_in(
+    random: &mut Random,
+    config: Config,
+    message: &Message,
+    place: Place,
+) -> Option<Vec<u8>> {
+    if matches!(place, Place::House | Place::Light) {
+        return None;
+    }
+    let (mut bytes, pieces) = write_pieces(message);
+    let target = Target {
+        config,
+        message,
+        bytes: &bytes,
+        pieces: &pieces,
+    };
+    let patches = patches(&target, random, place)?;
+    apply(&mut bytes, patches);
+    Some(bytes)
 }
 
 /// What to change in a lawful message so that it is refused at the place, or

@@ -94,20 +94,15 @@ impl<S: Sheet, C: Calls<S>> Program<S, C> {
                 Err(_) => Some(Answer::What),
                 Ok(None) => None,
                 Ok(Some(command)) => {
-                    let command = command.with_message(|bytes| Some(self.find(bytes)));
+                    let command = command.with_message(|bytes| {
+                        let bytes = bytes.clone();
+                        Some(Handed { place: None, bytes })
+                    });
                     command.map(|command| self.obey(&command).unwrap_or_else(|early| early))
                 }
             };
         }
         Some(self.obey(command).unwrap_or_else(|early| early))
-    }
-
-    /// A message that is given by its bytes alone.
-    fn find(&self, bytes: &[u8]) -> Handed {
-        Handed {
-            place: self.sent.iter().position(|letter| letter.bytes() == bytes),
-            bytes: bytes.to_vec(),
-        }
     }
 
     fn obey(&mut self, command: &Command<Handed>) -> Step<Answer> {

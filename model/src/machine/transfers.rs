@@ -132,8 +132,10 @@ impl Sheet for Transfers {
     }
 
     fn open(_: Config, message: &Handed, sent: &[Letter<Self>]) -> Result<Letter<Self>, No> {
-        let place = message.place.expect("the message was sent");
-        Ok(sent[place].clone())
+        // A line that is given as text names its message by the bytes.
+        let by_bytes = || sent.iter().position(|letter| letter.bytes() == message.bytes);
+        let place = message.place.or_else(by_bytes);
+        Ok(sent[place.expect("the message was sent")].clone())
     }
 }
 

@@ -4,9 +4,12 @@
 //! answers alone checks the clauses of demand 3. A run that fails is shrunk to
 //! a short script.
 
+pub mod beside;
 pub mod check;
+pub mod damaged;
 pub mod dress;
 pub mod drawn;
+pub mod forge;
 pub mod helper;
 pub mod known;
 pub mod misuse;
