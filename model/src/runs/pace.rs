@@ -20,6 +20,8 @@ pub struct Pace {
     /// Transfers, and how many of them give all that can be spared.
     pub transfers: u64,
     pub whole: u64,
+    /// Times at which many give one all that they can spare.
+    pub pours: u64,
     pub shares: u64,
     /// A transfer is told to all at once.
     pub tells: bool,
@@ -60,11 +62,12 @@ impl Pace {
             desks: desks(random),
             transfers: *random.pick(&[0, 4, 10, 20, 40, 80]),
             whole: random.below(1_000),
+            pours: *random.pick(&[0, 0, 0, 2, 5]),
             shares: *random.pick(&[0, 5, 20, 60]),
             tells: random.one_in(4),
             losses: *random.pick(&[0, 10, 40]),
             doubles: *random.pick(&[0, 50, 200]),
-            crashes: *random.pick(&[0, 0, 0, 1, 4]),
+            crashes: *random.pick(&[0, 0, 0, 1, 4, 8]),
             drops: *random.pick(&[0, 2, 10]),
             misuses: *random.pick(&[0, 20, 80, 160]),
             helpers: *random.pick(&[0, 10, 40]),
@@ -90,6 +93,7 @@ impl Pace {
             desks,
             transfers: *random.pick(&[15, 40, 80]),
             whole: 900,
+            pours: *random.pick(&[0, 10, 20]),
             shares: *random.pick(&[5, 30]),
             tells: !random.one_in(3),
             losses: 0,

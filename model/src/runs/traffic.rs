@@ -7,7 +7,7 @@ use super::player::Player;
 use crate::format::Kind;
 use crate::machine::command::Command;
 use crate::machine::desk::Task;
-use crate::weights::MOST;
+use crate::weights::{MOST, START};
 
 /// The most messages that are on their way at once; the eldest is lost.
 const MOST_FLYING: usize = 48;
@@ -18,6 +18,7 @@ impl Player<'_> {
         let pace = &self.pace;
         let rates = [
             pace.transfers,
+            pace.pours,
             pace.shares,
             pace.losses,
             pace.crashes,
@@ -36,12 +37,13 @@ impl Player<'_> {
         }
         match chosen {
             0 => self.transfer(),
-            1 => self.share(),
-            2 => self.lose(),
-            3 => self.crash(),
-            4 => self.drop(),
-            5 => self.misuse(),
-            6 => self.help(),
+            1 => self.pour(),
+            2 => self.share(),
+            3 => self.lose(),
+            4 => self.crash(),
+            5 => self.drop(),
+            6 => self.misuse(),
+            7 => self.help(),
             _ => self.go_on(),
         }
     }
@@ -140,12 +142,19 @@ impl Player<'_> {
         Task::Write(self.random.bytes(length as usize).into())
     }
 
-    /// The servers that an operation goes by at first.
+    /// The servers that an operation goes by at first: all, some, or those
+    /// above or below the weight that each had at the start.
     fn favours(&mut self) -> Vec<u64> {
         let n = self.known.n();
-        let all = (0..n).collect();
+        let all: Vec<u64> = (0..n).collect();
         if !self.pace.narrow {
             return all;
+        }
+        if self.random.one_in(2) {
+            let heavy = self.random.one_in(2);
+            let weights = &self.known.weights;
+            let fits = |server: &u64| (weights[*server as usize] > START) == heavy;
+            return all.into_iter().filter(fits).collect();
         }
         let map = self.random.word();
         let some: Vec<u64> = (0..n).filter(|server| map >> server & 1 == 1).collect();
@@ -224,6 +233,39 @@ impl Player<'_> {
         }
     }
 
+    /// Several servers give one all that they can spare, and tell it; the rest
+    /// may hear of it later.
+    fn pour(&mut self) {
+        let alive = self.known.alive();
+        if alive.len() < 2 {
+            return;
+        }
+        let taker = *self.random.pick(&alive);
+        for giver in alive {
+            if giver == taker || self.random.one_in(4) {
+                continue;
+            }
+            self.give(Command::RecordServer { server: giver });
+            let amount = self.known.spare(giver);
+            if amount == 0 {
+                continue;
+            }
+            self.give(Command::Transfer {
+                giver,
+                taker,
+                amount,
+            });
+            let room = self.room();
+            let (_, post) = self.give(Command::Share {
+                server: giver,
+                room,
+            });
+            if let Some(post) = post {
+                self.serve(taker, post.line);
+            }
+        }
+    }
+
     fn share(&mut self) {
         let alive = self.known.alive();
         if !alive.is_empty() {
@@ -262,7 +304,7 @@ impl Player<'_> {
     fn crash(&mut self) {
         let crashed = self.known.crashed.iter().filter(|crashed| **crashed).count();
         let server = self.any_server();
-        if crashed < self.known.config.f() || self.random.one_in(12) {
+        if crashed < self.known.config.f() || self.random.one_in(6) {
             self.give(Command::Crash { server });
         }
     }
