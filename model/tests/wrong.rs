@@ -75,7 +75,10 @@ fn catch(seed: u64, wrong: &Wrong, clause: Clause) -> (u64, Vec<Entry>, Found) {
             return (number, script, found);
         }
     }
-    panic!("{RUNS} runs do not show that {:?} breaks {clause}", wrong.name);
+    panic!(
+        "{RUNS} runs do not show that {:?} breaks {clause}",
+        wrong.name
+    );
 }
 
 /// A run. For the equality the plain machine leads; for a clause the wrong

@@ -108,6 +108,41 @@ impl<M> Command<M> {
         )
     }
 
+    /// The desk that it names.
+    pub fn desk(&self) -> Option<u64> {
+        match self {
+            Command::Begin { desk, .. }
+            | Command::Ask { desk, .. }
+            | Command::Hear { desk, .. }
+            | Command::Result { desk }
+            | Command::Drop { desk }
+            | Command::RecordDesk { desk } => Some(*desk),
+            _ => None,
+        }
+    }
+
+    /// The server whose record it is about.
+    pub fn server(&self) -> Option<u64> {
+        match self {
+            Command::Share { server, .. }
+            | Command::Serve { server, .. }
+            | Command::Crash { server }
+            | Command::RecordServer { server } => Some(*server),
+            Command::Transfer { giver, .. } => Some(*giver),
+            _ => None,
+        }
+    }
+
+    /// The buffer that it lends.
+    pub fn room(&self) -> Option<Room> {
+        match self {
+            Command::Ask { room, .. }
+            | Command::Share { room, .. }
+            | Command::Serve { room, .. } => Some(*room),
+            _ => None,
+        }
+    }
+
     /// The words of the line, bytes as one word of hex.
     pub fn line<'a>(&'a self, bytes_of: impl Fn(&'a M) -> &'a [u8]) -> String {
         match self {

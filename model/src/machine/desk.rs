@@ -211,7 +211,12 @@ impl<S: Sheet> Desk<S> {
     }
 
     /// Phase 1 ends with a register; phase 2 begins in a new round.
-    pub fn choose(&mut self, operation: Operation, pair: Pair<S>, chosen: Register) -> Result<(), No> {
+    pub fn choose(
+        &mut self,
+        operation: Operation,
+        pair: Pair<S>,
+        chosen: Register,
+    ) -> Result<(), No> {
         self.round = next(self.round)?;
         self.pair = Pair {
             register: chosen.clone(),

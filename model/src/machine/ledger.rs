@@ -53,8 +53,8 @@ impl Sheet for Ledger {
             Party::Server(server) => brought.counts[server] > own.counts[server],
             Party::Desk => brought.lacks(own),
         };
-        let tags_clash = held.register.tag == other.register.tag
-            && held.register.value != other.register.value;
+        let tags_clash =
+            held.register.tag == other.register.tag && held.register.value != other.register.value;
         party_clash || tags_clash || !rows_join(own, brought) || own.join(brought).is_light(config)
     }
 

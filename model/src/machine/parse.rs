@@ -15,7 +15,9 @@ type Readable<T> = Result<T, Unreadable>;
 /// The command of a line, `None` if it has no word.
 pub fn parse(text: &str) -> Readable<Option<Command<Vec<u8>>>> {
     let front = text.split('#').next().unwrap_or("");
-    let words = front.split([' ', '\t', '\r']).filter(|word| !word.is_empty());
+    let words = front
+        .split([' ', '\t', '\r'])
+        .filter(|word| !word.is_empty());
     let mut words = Words {
         rest: words.collect(),
     };

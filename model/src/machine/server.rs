@@ -50,7 +50,13 @@ impl<S: Sheet> Server<S> {
     }
 
     /// The tests of a transfer, by the sheet that weighs the giver.
-    pub fn may_transfer(&self, config: Config, sheet: &S, taker: u64, amount: u64) -> Result<(), No> {
+    pub fn may_transfer(
+        &self,
+        config: Config,
+        sheet: &S,
+        taker: u64,
+        amount: u64,
+    ) -> Result<(), No> {
         if taker == self.number as u64 || taker >= config.n() as u64 || amount == 0 {
             return Err(No::BAD_TRANSFER);
         }

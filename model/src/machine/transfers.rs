@@ -67,8 +67,12 @@ impl Sheet for Transfers {
     }
 
     fn count(&self, giver: usize) -> usize {
-        let own = |transfer: &&Transfer| usize::from(transfer.giver) == giver;
-        self.iter().filter(own).count()
+        // The members of a giver stand together.
+        let before = |giver| {
+            let earlier = |member: &Transfer| usize::from(member.giver) < giver;
+            self.members.partition_point(earlier)
+        };
+        before(giver + 1) - before(giver)
     }
 
     fn weights(&self) -> [i64; MOST] {
@@ -133,7 +137,10 @@ impl Sheet for Transfers {
 
     fn open(_: Config, message: &Handed, sent: &[Letter<Self>]) -> Result<Letter<Self>, No> {
         // A line that is given as text names its message by the bytes.
-        let by_bytes = || sent.iter().position(|letter| letter.bytes() == message.bytes);
+        let by_bytes = || {
+            sent.iter()
+                .position(|letter| letter.bytes() == message.bytes)
+        };
         let place = message.place.or_else(by_bytes);
         Ok(sent[place.expect("the message was sent")].clone())
     }

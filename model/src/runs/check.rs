@@ -26,7 +26,11 @@ pub fn unequal(turns: &[Turn], reference: &mut dyn Store) -> Option<Found> {
 /// What was expected and what was answered, in words.
 pub fn difference(expected: Option<&str>, answered: Option<&str>) -> String {
     let words = |answer: Option<&str>| answer.unwrap_or("no line").to_string();
-    format!("expected: {}\nanswered: {}", words(expected), words(answered))
+    format!(
+        "expected: {}\nanswered: {}",
+        words(expected),
+        words(answered)
+    )
 }
 
 /// The clauses that the turns break, each where it is first seen.

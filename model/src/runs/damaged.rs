@@ -71,7 +71,13 @@ fn forged_step(player: &mut Player) -> Option<String> {
         Party::Desk => Command::RecordDesk { desk: number },
     };
     let held = shown(&player.give(record.clone()).0)?;
-    let forged = forge(&mut player.random, player.known.config, party, number, &held);
+    let forged = forge(
+        &mut player.random,
+        player.known.config,
+        party,
+        number,
+        &held,
+    );
     let message = Source::Bytes(forged.bytes);
     let room = match player.random.below(8) {
         0 => Room {
@@ -114,7 +120,9 @@ pub fn changed(turns: &[Turn]) -> Option<Found> {
     let around = turns.windows(3).find(|around| {
         let call = &around[1];
         let untaken = refused(call.answer()).is_some() || call.answer() == "late";
-        untaken && around[0].text == around[2].text && around[0].answer != around[2].answer
+        untaken
+            && around[0].text == around[2].text
+            && around[0].answer != around[2].answer
             && shown(around[0].answer()).is_some()
     })?;
     Some(Found {

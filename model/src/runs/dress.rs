@@ -67,7 +67,11 @@ fn hex_dressed(random: &mut Random, word: &str) -> String {
         if apart && place > 0 && place % 2 == 0 && random.one_in(3) {
             text.push(' ');
         }
-        text.push(if lower { digit.to_ascii_lowercase() } else { digit });
+        text.push(if lower {
+            digit.to_ascii_lowercase()
+        } else {
+            digit
+        });
     }
     text
 }

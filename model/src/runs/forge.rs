@@ -11,7 +11,7 @@ use crate::lawful;
 use crate::machine::sheet::Party;
 use crate::place::Place;
 use crate::random::Random;
-use crate::weights::{Config, Ledger};
+use crate::weights::{Config, Ledger, MOST};
 use crate::write::{write, write_pieces};
 
 /// Bytes, and what was done to them in words.
@@ -40,28 +40,28 @@ pub fn forge(
     message.ledger = held.ledger.clone();
     message.register = register_of(held.tag.stamp, held.tag.desk, &held.value);
     match random.below(16) {
-        0..=5 => words = change_sheet(random, config, &mut message.ledger, own),
-        6 if held.tag.stamp > 0 => {
+        0..=6 => words = change_sheet(random, config, &mut message.ledger, own),
+        7 if held.tag.stamp > 0 => {
             words = "an equal tag with another value";
             message.register = register_of(held.tag.stamp, held.tag.desk, &value);
         }
-        7 => {
+        8 => {
             words = "a stamp at its end";
             message.register = register_of(u32::MAX, u16::MAX, &value);
         }
-        8 => {
+        9 => {
             words = "a stamp just before its end";
             message.register = register_of(u32::MAX - 1, u16::MAX, &value);
         }
-        9 => {
+        10 => {
             words = "a higher stamp";
             message.register = register_of(held.tag.stamp.saturating_add(1), 1, &value);
         }
-        10 => {
+        11 => {
             words = "any lawful sheet";
             message.ledger = lawful::ledger(random, config);
         }
-        11 if config.n() > 1 => {
+        12 if config.n() > 1 => {
             words = "a light sheet";
             lawful::make_light(random, config, &mut message.ledger);
         }
@@ -130,11 +130,13 @@ fn change_sheet(
     if n < 2 {
         return "a message that fits";
     }
-    let mut giver = random.index(n);
     let ahead = random.one_in(3);
-    if ahead && own.is_some() && random.one_in(2) {
-        giver = own.expect("it is some");
-    }
+    let standing: Vec<usize> = (0..n).filter(|&giver| ledger.counts[giver] > 0).collect();
+    let giver = match own {
+        Some(own) if ahead && random.one_in(2) => own,
+        _ if ahead || standing.is_empty() => random.index(n),
+        _ => *random.pick(&standing),
+    };
     let taker = (giver + 1 + random.index(n - 1)) % n;
     let count = ledger.counts[giver];
     if ahead || count == 0 {
@@ -159,7 +161,7 @@ fn change_sheet(
         }
         2 => {
             ledger.counts[giver] = 0;
-            ledger.cells[giver] = [0; 16];
+            ledger.cells[giver] = [0; MOST];
             "a row is behind"
         }
         _ => {
@@ -181,7 +183,10 @@ fn damaged(random: &mut Random, config: Config, message: &Message) -> Option<For
         3 => ("noise", noise(random, config.n() as u64)),
         _ => {
             let place = *random.pick(Place::ALL);
-            ("aimed at a check", aimed_in(random, config, message, place)?)
+            (
+                "aimed at a check",
+                aimed_in(random, config, message, place)?,
+            )
         }
     };
     Some(Forged { words, bytes })

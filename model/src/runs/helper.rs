@@ -65,7 +65,12 @@ impl Player<'_> {
     /// The calls that take a message alone, on one that was sent or on any.
     pub fn of_message(&mut self) {
         let case = Case::draw(self.random.word(), 0);
-        let sent = self.turns.iter().rev().take(40).find_map(|turn| turn.sent());
+        let sent = self
+            .turns
+            .iter()
+            .rev()
+            .take(40)
+            .find_map(|turn| turn.sent());
         let bytes = match sent {
             Some(bytes) if !self.random.one_in(3) => bytes,
             _ => case.message,

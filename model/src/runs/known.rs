@@ -87,17 +87,18 @@ impl Known {
     /// Takes in a line and its answer. Gives what it sent.
     pub fn see(&mut self, turn: &Turn) -> Option<Post> {
         let answer = turn.answer();
+        if let (Some(desk @ 1..=65_535), true) = (turn.command.desk(), answer != "bounds") {
+            self.desks.entry(desk).or_default();
+        }
         match turn.command {
-            Command::Begin { desk, .. } => {
+            Command::Begin { desk, .. } if answer == "ok" => {
                 let known = self.desks.entry(desk).or_default();
-                if answer == "ok" {
-                    known.running = true;
-                    known.round += 1;
-                    known.phase = 1;
-                    known.answered.clear();
-                    known.fresh_result = false;
-                    known.tries = 0;
-                }
+                known.running = true;
+                known.round += 1;
+                known.phase = 1;
+                known.answered.clear();
+                known.fresh_result = false;
+                known.tries = 0;
             }
             Command::Drop { desk } if answer == "ok" => {
                 self.desks.entry(desk).or_default().running = false;

@@ -8,6 +8,7 @@ use super::script::Source;
 use crate::format::Kind;
 use crate::machine::command::Command;
 use crate::machine::desk::Task;
+use crate::machine::program::MOST_DESKS;
 use crate::machine::server::Room;
 
 impl Player<'_> {
@@ -191,7 +192,9 @@ impl Player<'_> {
             at,
             len: at + length,
         }));
-        self.known.flying.extend(again.filter(|post| post.kind != Kind::Share));
+        self.known
+            .flying
+            .extend(again.filter(|post| post.kind != Kind::Share));
     }
 
     /// A server or desk that there is not, and more desks than the program has.
@@ -203,7 +206,7 @@ impl Player<'_> {
             _ => self.far(65_536),
         };
         let real = self.any_desk();
-        let full = self.known.desks.len() >= 16;
+        let full = self.known.desks.len() >= MOST_DESKS;
         match self.random.below(9) {
             0 => self.give(Command::Transfer {
                 giver: server,
@@ -221,9 +224,10 @@ impl Player<'_> {
                 server,
                 room: ROOMY,
             }),
-            // Which of the two answers a number that no desk has would get
-            // when there are 16 desks is nowhere said.
-            _ if full => self.give(Command::RecordDesk { desk: real }),
+            5 if full => {
+                let desk = self.random.within(1, 65_535);
+                self.give(Command::Result { desk })
+            }
             5 => self.give(Command::Begin {
                 desk,
                 task: Task::Read,

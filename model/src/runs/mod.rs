@@ -7,8 +7,8 @@
 pub mod beside;
 pub mod check;
 pub mod damaged;
-pub mod dress;
 pub mod drawn;
+pub mod dress;
 pub mod forge;
 pub mod helper;
 pub mod known;
@@ -21,6 +21,7 @@ pub mod process;
 pub mod script;
 pub mod seen;
 pub mod shrink;
+pub mod spent;
 pub mod store;
 pub mod tally;
 pub mod traffic;

@@ -148,7 +148,10 @@ fn sound_message(config: Config, bytes: &[u8]) -> Option<Breach> {
     match read(config, bytes) {
         Ok(message) => sound_weights(config, &message.ledger.weights()[..config.n()]),
         Err(fault) => {
-            let words = format!("a message that was sent is refused: {}", fault.place.words());
+            let words = format!(
+                "a message that was sent is refused: {}",
+                fault.place.words()
+            );
             Some((Clause::Sheets, words))
         }
     }

@@ -125,7 +125,11 @@ impl Operations {
             breaches.push((Clause::Values, words));
         }
         let same = |(tag, value): &(Tag, Vec<u8>)| *tag == told.tag && *value == told.value;
-        if operation.chosen.as_ref().is_some_and(|chosen| !same(chosen)) {
+        if operation
+            .chosen
+            .as_ref()
+            .is_some_and(|chosen| !same(chosen))
+        {
             let words = format!("desk {desk} has another register as result than it chose");
             breaches.push((Clause::Values, words));
         }

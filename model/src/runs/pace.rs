@@ -17,6 +17,8 @@ pub struct Pace {
     /// Steps of the store after which the run stops.
     pub steps: u64,
     pub desks: Vec<u64>,
+    /// How many of them are at work at the same time.
+    pub at_once: usize,
     /// Transfers, and how many of them give all that can be spared.
     pub transfers: u64,
     pub whole: u64,
@@ -60,6 +62,7 @@ impl Pace {
             f,
             steps,
             desks: desks(random),
+            at_once: *random.pick(&[2, 4, 17]),
             transfers: *random.pick(&[0, 4, 10, 20, 40, 80]),
             whole: random.below(1_000),
             pours: *random.pick(&[0, 0, 0, 2, 5]),
@@ -81,23 +84,34 @@ impl Pace {
     /// Few servers and two or three desks, weight that moves as far as it can
     /// and is told to all: where a store that is almost right goes wrong.
     fn tight(random: &mut Random) -> Pace {
-        let (n, f) = *random.pick(&[(2, 0), (3, 0), (3, 0), (3, 1), (4, 0), (4, 1), (5, 0), (5, 1)]);
+        let (n, f) = *random.pick(&[
+            (2, 0),
+            (3, 0),
+            (3, 0),
+            (3, 1),
+            (4, 0),
+            (4, 1),
+            (5, 0),
+            (5, 1),
+        ]);
         let desks = match random.below(3) {
-            0 => vec![1, 2, 65_535],
-            _ => vec![1, 2],
+            0 => vec![1, 2],
+            1 => vec![1, 2, 3, 65_534, 65_535],
+            _ => (1..=16).collect(),
         };
         Pace {
             n,
             f,
             steps: random.within(60, 400),
             desks,
-            transfers: *random.pick(&[15, 40, 80]),
+            at_once: 2,
+            transfers: *random.pick(&[0, 15, 40]),
             whole: 900,
             pours: *random.pick(&[0, 10, 20]),
-            shares: *random.pick(&[5, 30]),
-            tells: !random.one_in(3),
+            shares: *random.pick(&[0, 5, 30]),
+            tells: random.one_in(3),
             losses: 0,
-            doubles: *random.pick(&[0, 100, 400]),
+            doubles: *random.pick(&[0, 200, 500]),
             crashes: 0,
             drops: *random.pick(&[0, 5]),
             misuses: *random.pick(&[0, 0, 20]),

@@ -58,7 +58,13 @@ impl Turn {
     pub fn is_step(&self) -> bool {
         match self.answer() {
             "what" | "bounds" | "crashed" => false,
-            "no 1" => matches!(self.command, Command::Ask { desk: 1..=65_535, .. }),
+            "no 1" => matches!(
+                self.command,
+                Command::Ask {
+                    desk: 1..=65_535,
+                    ..
+                }
+            ),
             _ => self.command.is_step(),
         }
     }
@@ -124,5 +130,8 @@ impl<'a> Stage<'a> {
 /// Plays a whole script.
 pub fn replay(entries: &[Entry], store: &mut dyn Store) -> Vec<Turn> {
     let mut stage = Stage::new(store);
-    entries.iter().filter_map(|entry| stage.play(entry)).collect()
+    entries
+        .iter()
+        .filter_map(|entry| stage.play(entry))
+        .collect()
 }

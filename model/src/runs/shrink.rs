@@ -60,12 +60,18 @@ fn plainer(entry: &Entry) -> Vec<Entry> {
     let commands = match &entry.command {
         Command::House { n, f } => vec![
             Command::House { n: n / 2, f: f / 2 },
-            Command::House { n: n.saturating_sub(1), f: 0 },
+            Command::House {
+                n: n.saturating_sub(1),
+                f: 0,
+            },
             Command::House {
                 n: n.saturating_sub(1),
                 f: f.saturating_sub(1),
             },
-            Command::House { n: n.saturating_sub(1), f: *f },
+            Command::House {
+                n: n.saturating_sub(1),
+                f: *f,
+            },
         ],
         Command::Begin { desk, task, note } => {
             let short = match task {

@@ -159,7 +159,7 @@ impl Tally {
 
     fn see_bounds(&mut self, turn: &Turn) {
         self.reach("line: bounds");
-        let desk = desk_of(&turn.command);
+        let desk = turn.command.desk();
         let another = desk.is_some_and(|desk| !self.desks.contains_key(&desk));
         self.reach_if(
             another && self.desks.len() == 16,
@@ -170,18 +170,11 @@ impl Tally {
     /// Who is named, and the program's answer if there is no such party.
     fn see_parties(&mut self, turn: &Turn, config: Config) {
         let is_no_1 = turn.answer() == "no 1";
-        let server = match turn.command {
-            Command::Share { server, .. }
-            | Command::Serve { server, .. }
-            | Command::Crash { server }
-            | Command::RecordServer { server } => Some(server),
-            Command::Transfer { giver, .. } => Some(giver),
-            _ => None,
-        };
+        let server = turn.command.server();
         if server.is_some_and(|server| server >= config.n() as u64) && is_no_1 {
             self.reach("line: no 1 for a server");
         }
-        match desk_of(&turn.command) {
+        match turn.command.desk() {
             Some(desk @ 1..=65_535) => {
                 self.desks.entry(desk).or_default();
                 self.reach_if(desk == 1, "desk 1");
@@ -250,7 +243,7 @@ impl Tally {
             Command::RecordDesk { desk } => self.see_desk(*desk, answer),
             _ => {}
         }
-        if let (Some(bytes), Some(room)) = (turn.sent(), room_of(&turn.command)) {
+        if let (Some(bytes), Some(room)) = (turn.sent(), turn.command.room()) {
             self.reach_if(room.at > 0, "buffer: from a place above 0");
             let exact = room.at + bytes.len() as u64 == room.len;
             self.reach_if(exact, "buffer: of just the right size");
@@ -310,26 +303,5 @@ impl Tally {
         if before.running && now.mode == Mode::Ended {
             self.reach(format!("ended: {kind}"));
         }
-    }
-}
-
-fn desk_of<M>(command: &Command<M>) -> Option<u64> {
-    match command {
-        Command::Begin { desk, .. }
-        | Command::Ask { desk, .. }
-        | Command::Hear { desk, .. }
-        | Command::Result { desk }
-        | Command::Drop { desk }
-        | Command::RecordDesk { desk } => Some(*desk),
-        _ => None,
-    }
-}
-
-fn room_of<M>(command: &Command<M>) -> Option<crate::machine::server::Room> {
-    match command {
-        Command::Ask { room, .. } | Command::Share { room, .. } | Command::Serve { room, .. } => {
-            Some(*room)
-        }
-        _ => None,
     }
 }

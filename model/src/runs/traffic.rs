@@ -16,9 +16,15 @@ impl Player<'_> {
     /// The next thing that happens.
     pub fn happen(&mut self) {
         let pace = &self.pace;
+        // Phase 2 is where moving weight does harm, if it does any.
+        let in_second = self
+            .known
+            .desks
+            .values()
+            .any(|desk| desk.running && desk.phase == 2);
         let rates = [
             pace.transfers,
-            pace.pours,
+            pace.pours * if in_second { 4 } else { 1 },
             pace.shares,
             pace.losses,
             pace.crashes,
@@ -102,7 +108,16 @@ impl Player<'_> {
 
     /// A desk fetches its result, begins, or asks.
     fn work(&mut self) {
-        let desk = self.any_desk();
+        let known = self.known.desks.iter();
+        let at_work: Vec<u64> = known
+            .filter(|(_, desk)| desk.running)
+            .map(|(number, _)| *number)
+            .collect();
+        let desk = if at_work.len() < self.pace.at_once {
+            self.any_desk()
+        } else {
+            *self.random.pick(&at_work)
+        };
         let known = self.known.desks.get(&desk).cloned().unwrap_or_default();
         if known.fresh_result && !self.random.one_in(8) {
             self.give(Command::Result { desk });
@@ -151,7 +166,7 @@ impl Player<'_> {
             return all;
         }
         if self.random.one_in(2) {
-            let heavy = self.random.one_in(2);
+            let heavy = !self.random.one_in(3);
             let weights = &self.known.weights;
             let fits = |server: &u64| (weights[*server as usize] > START) == heavy;
             return all.into_iter().filter(fits).collect();
@@ -171,7 +186,7 @@ impl Player<'_> {
     fn ask_some(&mut self, desk: u64) {
         let known = self.known.desks.get_mut(&desk).expect("it runs");
         known.tries += 1;
-        let patient = known.tries < 12;
+        let patient = known.tries < 24;
         let round = known.round;
         let fits = |server: &u64| !known.answered.contains(&(*server as usize));
         let mut servers: Vec<u64> = match patient {
@@ -181,9 +196,9 @@ impl Player<'_> {
         let crashed = &self.known.crashed;
         let flying = &self.known.flying;
         servers.retain(|&server| {
-            let pending = flying.iter().any(|post| {
-                (post.desk, post.round, post.server) == (desk, round, server)
-            });
+            let pending = flying
+                .iter()
+                .any(|post| (post.desk, post.round, post.server) == (desk, round, server));
             !crashed[server as usize] && !pending || self.random.one_in(8)
         });
         let many = match self.random.below(4) {
@@ -285,10 +300,7 @@ impl Player<'_> {
         for step in 0..many {
             let to = (first + step) % n;
             if to != server || self.random.one_in(4) {
-                self.known.flying.push(Post {
-                    to,
-                    ..post.clone()
-                });
+                self.known.flying.push(Post { to, ..post.clone() });
             }
         }
     }
@@ -302,7 +314,12 @@ impl Player<'_> {
 
     /// A server crashes; seldom more than f, and seldom one a second time.
     fn crash(&mut self) {
-        let crashed = self.known.crashed.iter().filter(|crashed| **crashed).count();
+        let crashed = self
+            .known
+            .crashed
+            .iter()
+            .filter(|crashed| **crashed)
+            .count();
         let server = self.any_server();
         if crashed < self.known.config.f() || self.random.one_in(6) {
             self.give(Command::Crash { server });

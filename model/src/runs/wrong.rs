@@ -217,7 +217,10 @@ impl Calls<Transfers> for Unheard {
     ) -> Result<(), No> {
         let own = cluster.servers[giver].pair.sheet.clone();
         let sheet = cluster.servers.iter().fold(own, |sheet, other| {
-            let gifts = other.pair.sheet.filter(|gift| usize::from(gift.taker) == giver);
+            let gifts = other
+                .pair
+                .sheet
+                .filter(|gift| usize::from(gift.taker) == giver);
             sheet.join(&gifts)
         });
         let server = &mut cluster.servers[giver];
@@ -256,12 +259,15 @@ impl Calls<Transfers> for NeverEnds {
         desk: u16,
         letter: &Letter<Transfers>,
     ) -> Result<Heard, No> {
-        mark_with(cluster, desk, letter, |desk, config, operation| {
-            match operation.phase {
+        mark_with(
+            cluster,
+            desk,
+            letter,
+            |desk, config, operation| match operation.phase {
                 Phase::First => desk.mark(config, operation, letter),
                 Phase::Second(_) => desk.marked(operation, letter, false),
-            }
-        })
+            },
+        )
     }
 }
 
@@ -283,12 +289,7 @@ impl Calls<Transfers> for RefusesAll {
         Err(No::BUSY)
     }
 
-    fn hear(
-        &self,
-        _: &mut Cluster<Transfers>,
-        _: u16,
-        _: &Letter<Transfers>,
-    ) -> Result<Heard, No> {
+    fn hear(&self, _: &mut Cluster<Transfers>, _: u16, _: &Letter<Transfers>) -> Result<Heard, No> {
         Err(No::BUSY)
     }
 
@@ -305,12 +306,7 @@ impl Calls<Transfers> for RefusesAll {
 struct AllLate;
 
 impl Calls<Transfers> for AllLate {
-    fn hear(
-        &self,
-        _: &mut Cluster<Transfers>,
-        _: u16,
-        _: &Letter<Transfers>,
-    ) -> Result<Heard, No> {
+    fn hear(&self, _: &mut Cluster<Transfers>, _: u16, _: &Letter<Transfers>) -> Result<Heard, No> {
         Ok(Heard::Late)
     }
 }

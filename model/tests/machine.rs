@@ -1,0 +1,135 @@
+//! The plain machine on the examples of paper 01, "Checked by the prover": cases
+//! 1 to 9 and the share in hex, and a write and a read across a transfer. The
+//! model over counts and cells has to agree.
+
+use model::machine::calls::Right;
+use model::machine::command::Command;
+use model::machine::program::Program;
+use model::machine::transfers::Transfers;
+use model::weights::Ledger;
+
+/// The answers of both models to a script, which have to be the same. A word
+/// `@k` stands for the message that line k sent, counted from 0.
+fn answers(script: &[&str]) -> Vec<String> {
+    let mut machine = Program::<Transfers, _>::new(Right);
+    let mut cells = Program::<Ledger, _>::new(Right);
+    let mut answers: Vec<String> = Vec::new();
+    for line in script {
+        let words: Vec<&str> = (line.split(' '))
+            .map(|word| match word.strip_prefix('@') {
+                None => word,
+                Some(line) => {
+                    let line: usize = line.parse().unwrap();
+                    answers[line].split(' ').next_back().unwrap()
+                }
+            })
+            .collect();
+        let text = words.join(" ");
+        let command = Command::Text(text.clone());
+        let answer = machine.answer(&text, &command).unwrap().to_string();
+        assert_eq!(cells.answer(&text, &command).unwrap().to_string(), answer);
+        answers.push(answer);
+    }
+    answers
+}
+
+#[test]
+fn cases_1_to_6_transfers_at_the_floor() {
+    for (house, most) in [("house 5 1", 374), ("house 4 1", 333), ("house 16 7", 111)] {
+        let passes = format!("transfer 0 1 {most}");
+        let thin = format!("transfer 0 1 {}", most + 1);
+        assert_eq!(answers(&[house, &thin, &passes])[1..], ["no 10", "ok"]);
+    }
+}
+
+#[test]
+fn case_7_two_fresh_servers_of_four() {
+    for house in ["house 4 0", "house 4 1"] {
+        let script = [house, "share 0 0 1111", "quorum 3 @1", "quorum 7 @1"];
+        assert_eq!(answers(&script)[2..], ["0", "1"]);
+    }
+}
+
+#[test]
+fn cases_8_and_9_quorums_after_two_gifts() {
+    let script = [
+        "house 5 1",
+        "transfer 0 2 374",
+        "transfer 1 2 374",
+        "share 0 0 1111",
+        "serve 1 0 0 @3",
+        "share 1 0 1111",
+        "quorum 20 @5",
+        "quorum 5 @5",
+    ];
+    assert_eq!(answers(&script)[6..], ["1", "0"]);
+}
+
+#[test]
+fn the_share_in_hex() {
+    let script = [
+        "house 5 1",
+        "transfer 0 2 200",
+        "share 0 0 14",
+        "share 0 7 20",
+    ];
+    let answers = answers(&script);
+    assert_eq!(answers[2], "ok 14 00230300000100010004000000C8");
+    assert_eq!(answers[3], "no 13");
+}
+
+#[test]
+fn a_read_across_a_transfer() {
+    let script = [
+        "house 3 0",
+        "begin 1 write 5 A0",
+        "ask 1 0 0 1111",
+        "serve 0 0 1111 @2",
+        "hear 1 @3",
+        "ask 1 1 0 1111",
+        "serve 1 0 1111 @5",
+        "hear 1 @6",
+        "hear 1 @6", // late: phase 2 has begun
+        "ask 1 0 0 1111",
+        "serve 0 0 1111 @9",
+        "hear 1 @10",
+        "transfer 1 2 499",
+        "ask 1 1 0 1111",
+        "serve 1 0 1111 @13",
+        "hear 1 @14", // a restart in phase 2
+        "record desk 1",
+        "ask 1 2 0 1111",
+        "serve 2 0 1111 @17",
+        "hear 1 @18",
+        "ask 1 0 0 1111",
+        "serve 0 0 1111 @20",
+        "hear 1 @21",
+        "result 1",
+        "begin 2 read 0",
+        "ask 2 2 0 1111",
+        "serve 2 0 1111 @25",
+        "hear 2 @26", // a restart in phase 1
+        "ask 2 2 0 1111",
+        "serve 2 0 1111 @28",
+        "hear 2 @29",
+        "ask 2 0 0 1111",
+        "serve 0 0 1111 @31",
+        "hear 2 @32",
+        "ask 2 2 0 1111",
+        "serve 2 0 1111 @34",
+        "hear 2 @35",
+        "ask 2 0 0 1111",
+        "serve 0 0 1111 @37",
+        "hear 2 @38",
+        "result 2",
+    ];
+    let answers = answers(&script);
+    assert_eq!(answers[8], "late");
+    assert_eq!(
+        answers[16],
+        "desk 1 n 3 f 0 tag 1 1 value A0 weights 1000 501 1499 counts 0 1 0 cells 1>2:499 \
+         round 3 operation running write phase 2 note 5 restarts 1 answered - writing A0 chosen 1 1 A0"
+    );
+    assert_eq!(answers[23], "ok write 1 1 1 A0");
+    assert_eq!(answers[40], "ok read 1 1 1 A0");
+}
