@@ -6,6 +6,7 @@ use super::script::{Entry, Source, Turn};
 use super::store::Store;
 use crate::machine::command::Command;
 use crate::machine::desk::Task;
+use crate::machine::program::MOST_DESKS;
 use crate::random::Random;
 
 /// A run that was played: its script, and what the store answered.
@@ -26,6 +27,11 @@ pub fn draw(seed: u64, number: u64, store: &mut dyn Store) -> Run {
         early(&mut player);
     }
     player.give(Command::House { n, f });
+    if player.pace.desks.len() >= MOST_DESKS {
+        for desk in player.pace.desks.clone() {
+            player.give(Command::RecordDesk { desk });
+        }
+    }
     // Choices that lead to no line are bounded too.
     let mut choices = 0;
     while player.steps < steps && choices < 20 * steps {

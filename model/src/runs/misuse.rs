@@ -157,8 +157,8 @@ impl Player<'_> {
             }
             1 => self.try_rooms(|room| Command::Share { server, room }),
             _ => {
-                let flying = self.known.flying.iter();
-                let request = flying.filter(|post| post.kind == Kind::Request).last();
+                let mut flying = self.known.flying.iter();
+                let request = flying.rfind(|post| post.kind == Kind::Request);
                 if let Some(post) = request.cloned() {
                     self.try_rooms(|room| Command::Serve {
                         server: post.server,
@@ -224,7 +224,7 @@ impl Player<'_> {
                 server,
                 room: ROOMY,
             }),
-            5 if full => {
+            5..=6 if full => {
                 let desk = self.random.within(1, 65_535);
                 self.give(Command::Result { desk })
             }

@@ -17,7 +17,7 @@ use crate::machine::program::LONGEST_LINE;
 use crate::machine::sheet::Handed;
 
 /// How long an answer is waited for in a conversation.
-const PATIENCE: Duration = Duration::from_secs(60);
+const PATIENCE: Duration = Duration::from_secs(20);
 
 /// Where the program lies: TOVRIDSA_CASES, or where `rt check cases` puts it.
 pub fn program() -> PathBuf {
@@ -65,6 +65,7 @@ pub struct Conversation {
     child: Child,
     input: Option<ChildStdin>,
     answers: Receiver<String>,
+    silent: bool,
 }
 
 impl Conversation {
@@ -82,6 +83,7 @@ impl Conversation {
             child,
             input: Some(input),
             answers,
+            silent: false,
         }
     }
 }
@@ -95,10 +97,15 @@ impl Store for Conversation {
         if !has_answer(text) {
             return None;
         }
-        match self.answers.recv_timeout(PATIENCE) {
-            Ok(answer) => Some(answer),
-            Err(_) => Some("(no answer)".to_string()),
-        }
+        // After one answer that did not come the others are not waited for.
+        let patience = if self.silent {
+            Duration::ZERO
+        } else {
+            PATIENCE
+        };
+        let answer = self.answers.recv_timeout(patience);
+        self.silent |= answer.is_err();
+        Some(answer.unwrap_or("(no answer)".to_string()))
     }
 }
 

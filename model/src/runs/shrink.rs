@@ -2,10 +2,10 @@
 //! by one, as long as it still fails; then what is left is made plain. Lines
 //! that name a message of a line that is gone are gone with it.
 
+use super::player::ROOMY;
 use super::script::{Entry, Turn};
 use crate::machine::command::Command;
 use crate::machine::desk::Task;
-use crate::machine::server::Room;
 
 /// The shortest script found for which the test still holds.
 pub fn shrink(entries: &[Entry], fails: &mut dyn FnMut(&[Entry]) -> bool) -> Vec<Entry> {
@@ -20,7 +20,11 @@ pub fn shrink(entries: &[Entry], fails: &mut dyn FnMut(&[Entry]) -> bool) -> Vec
     }
 }
 
-/// Leaves out chunks of half, a quarter and so on down to single lines.
+/// The longest chunk that is tried from every line on.
+const WINDOW: usize = 8;
+
+/// Leaves out chunks of half, a quarter and so on, then short ones from every
+/// line on, down to single lines.
 fn leave_out(script: &mut Vec<Entry>, fails: &mut dyn FnMut(&[Entry]) -> bool) {
     let mut chunk = script.len().div_ceil(2);
     while chunk > 0 {
@@ -32,82 +36,78 @@ fn leave_out(script: &mut Vec<Entry>, fails: &mut dyn FnMut(&[Entry]) -> bool) {
             shorter.drain(start..end);
             if fails(&shorter) {
                 *script = shorter;
+                end = start;
+            } else if chunk <= WINDOW {
+                end = (end - 1).min(script.len());
+            } else {
+                end = start;
             }
-            end = start;
         }
-        chunk /= 2;
+        chunk = if chunk <= WINDOW {
+            chunk - 1
+        } else {
+            chunk / 2
+        };
     }
 }
 
-/// Tries each line in plainer forms.
+/// Tries each line in plainer forms, one change after the other.
 fn make_plain(script: &mut [Entry], fails: &mut dyn FnMut(&[Entry]) -> bool) {
     for place in 0..script.len() {
-        for plainer in plainer(&script[place]) {
-            let old = std::mem::replace(&mut script[place], plainer);
-            if script[place] == old || !fails(script) {
+        for change in CHANGES {
+            let old = script[place].clone();
+            change(&mut script[place]);
+            if script[place] != old && !fails(script) {
                 script[place] = old;
             }
         }
     }
 }
 
-fn plainer(entry: &Entry) -> Vec<Entry> {
-    let plain = Entry {
-        dress: 0,
-        ..entry.clone()
-    };
-    let room = Room { at: 0, len: 1_111 };
-    let commands = match &entry.command {
-        Command::House { n, f } => vec![
-            Command::House { n: n / 2, f: f / 2 },
-            Command::House {
-                n: n.saturating_sub(1),
-                f: 0,
-            },
-            Command::House {
-                n: n.saturating_sub(1),
-                f: f.saturating_sub(1),
-            },
-            Command::House {
-                n: n.saturating_sub(1),
-                f: *f,
-            },
-        ],
-        Command::Begin { desk, task, note } => {
-            let short = match task {
-                Task::Read => Task::Read,
-                Task::Write(value) => Task::Write(value[..value.len().min(1)].into()),
-            };
-            vec![
-                Command::Begin {
-                    desk: *desk,
-                    task: task.clone(),
-                    note: 0,
-                },
-                Command::Begin {
-                    desk: *desk,
-                    task: short,
-                    note: *note,
-                },
-            ]
+/// Changes that make a line plainer, where they apply.
+const CHANGES: &[fn(&mut Entry)] = &[
+    |entry| entry.dress = 0,
+    |entry| {
+        if let Command::House { n, f } = &mut entry.command {
+            (*n, *f) = (*n / 2, *f / 2);
         }
-        &Command::Ask { desk, server, .. } => vec![Command::Ask { desk, server, room }],
-        &Command::Share { server, .. } => vec![Command::Share { server, room }],
-        Command::Serve {
-            server, message, ..
-        } => vec![Command::Serve {
-            server: *server,
-            room,
-            message: message.clone(),
-        }],
-        _ => Vec::new(),
-    };
-    let changed = commands.into_iter().map(|command| Entry {
-        command,
-        ..plain.clone()
-    });
-    std::iter::once(plain.clone()).chain(changed).collect()
-}
+    },
+    |entry| {
+        if let Command::House { n, .. } = &mut entry.command {
+            *n = n.saturating_sub(1);
+        }
+    },
+    |entry| {
+        if let Command::House { f, .. } = &mut entry.command {
+            *f = f.saturating_sub(1);
+        }
+    },
+    |entry| {
+        if let Command::Begin { note, .. } = &mut entry.command {
+            *note = 0;
+        }
+    },
+    |entry| {
+        if let Command::Begin { task, .. } = &mut entry.command {
+            if let Task::Write(value) = task {
+                *value = value[..value.len().min(1)].into();
+            }
+        }
+    },
+    |entry| {
+        if let Command::Transfer { amount, .. } = &mut entry.command {
+            *amount = (*amount).min(1);
+        }
+    },
+    |entry| {
+        if let Command::Ask { room, .. }
+        | Command::Share { room, .. }
+        | Command::Serve { room, .. } = &mut entry.command
+        {
+            *room = ROOMY;
+        }
+    },
+];
 
 /// A script for a reader: each line, and the answer to it as a comment. What
 /// was found stands in front of the line that shows it.

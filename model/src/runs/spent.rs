@@ -2,17 +2,15 @@
 //! each, and is then refused with 12 (paper 01, "Server"). Whenever it is at the
 //! floor the other one hears of it and gives all back in one transfer.
 
+use super::player::ROOMY;
 use super::script::{Entry, Source};
 use crate::machine::command::Command;
-use crate::machine::server::Room;
 
 /// The most that a server of n = 2, f = 0 can spare at the start.
 const SPARE: u64 = 499;
 
 /// The most transfers that a server makes.
 const MOST_TRANSFERS: u64 = 65_535;
-
-const ROOMY: Room = Room { at: 0, len: 1_111 };
 
 /// The run's script.
 pub fn spent() -> Vec<Entry> {
