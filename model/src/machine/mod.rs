@@ -4,6 +4,8 @@
 //! test for the numbers 2 to 6; counts and cells make the model for messages
 //! that were forged or damaged on the way.
 
+#![forbid(unsafe_code)]
+
 pub mod calls;
 pub mod command;
 pub mod desk;

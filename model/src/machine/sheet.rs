@@ -18,6 +18,11 @@ pub trait Sheet: Clone {
     /// What every server weighs: 1,000 + received − given.
     fn weights(&self) -> [i64; MOST];
 
+    /// What one server weighs.
+    fn weight(&self, server: usize) -> i64 {
+        self.weights()[server]
+    }
+
     /// Its counts and cells.
     fn ledger(&self) -> Ledger;
 

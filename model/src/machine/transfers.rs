@@ -84,6 +84,14 @@ impl Sheet for Transfers {
         weights
     }
 
+    fn weight(&self, server: usize) -> i64 {
+        let is_server = |party: u8| i64::from(usize::from(party) == server);
+        let gain = |transfer: &Transfer| {
+            i64::from(transfer.amount) * (is_server(transfer.taker) - is_server(transfer.giver))
+        };
+        START + self.iter().map(gain).sum::<i64>()
+    }
+
     fn ledger(&self) -> Ledger {
         let mut ledger = Ledger::FRESH;
         for transfer in self.iter() {
@@ -187,5 +195,6 @@ mod tests {
         assert_eq!(ledger.counts[..3], [2, 0, 1]);
         assert_eq!(ledger.cells[0][..3], [0, 30, 200]);
         assert_eq!(ledger.weights(), sheet.weights());
+        assert!((0..MOST).all(|server| sheet.weight(server) == sheet.weights()[server]));
     }
 }

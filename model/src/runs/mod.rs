@@ -4,6 +4,8 @@
 //! answers alone checks the clauses of demand 3. A run that fails is shrunk to
 //! a short script.
 
+#![forbid(unsafe_code)]
+
 pub mod beside;
 pub mod check;
 pub mod damaged;
@@ -25,4 +27,6 @@ pub mod spent;
 pub mod store;
 pub mod tally;
 pub mod traffic;
+pub mod weight;
+pub mod work;
 pub mod wrong;

@@ -88,10 +88,12 @@ const CHANGES: &[fn(&mut Entry)] = &[
         }
     },
     |entry| {
-        if let Command::Begin { task, .. } = &mut entry.command {
-            if let Task::Write(value) = task {
-                *value = value[..value.len().min(1)].into();
-            }
+        if let Command::Begin {
+            task: Task::Write(value),
+            ..
+        } = &mut entry.command
+        {
+            *value = value[..value.len().min(1)].into();
         }
     },
     |entry| {

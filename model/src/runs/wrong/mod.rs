@@ -1,0 +1,90 @@
+//! Wrong stores that come close: paper 01, the section of that name. Each is the
+//! plain machine with one call exchanged, beside the clauses that it must break.
+
+mod calls;
+mod hears;
+
+use super::observer::Clause;
+use super::store::Store;
+use crate::machine::calls::Calls;
+use crate::machine::program::Program;
+use crate::machine::transfers::Transfers;
+use calls::{NoRestarts, RefusesAll, SheetAlone, SpentEarly, Unheard};
+use hears::{AllLate, CountedTwice, FirstReply, FixedTag, HeadCount, NeverEnds, OtherSheet};
+
+/// A wrong store: its name, how it is opened, and the clauses that the paper
+/// says it breaks.
+pub struct Wrong {
+    pub name: &'static str,
+    pub open: fn() -> Box<dyn Store>,
+    pub breaks: &'static [Clause],
+}
+
+fn store<C: Calls<Transfers> + 'static>(calls: C) -> Box<dyn Store> {
+    Box::new(Program::new(calls))
+}
+
+/// The paper's list in its order, and a quorum by heads, which only the
+/// equality excludes.
+pub const WRONG: &[Wrong] = &[
+    Wrong {
+        name: "joins a share's sheet but not its register",
+        open: || store(SheetAlone),
+        breaks: &[Clause::Order],
+    },
+    Wrong {
+        name: "counts a reply made on another sheet",
+        open: || store(OtherSheet),
+        breaks: &[Clause::Order],
+    },
+    Wrong {
+        name: "counts a server twice",
+        open: || store(CountedTwice::default()),
+        breaks: &[Clause::Order],
+    },
+    Wrong {
+        name: "weighs a giver by unheard gifts",
+        open: || store(Unheard),
+        breaks: &[Clause::Sheets],
+    },
+    Wrong {
+        name: "ends at its first reply and idles after",
+        open: || store(FirstReply),
+        breaks: &[Clause::Equality],
+    },
+    Wrong {
+        name: "never ends",
+        open: || store(NeverEnds),
+        breaks: &[Clause::Equality],
+    },
+    Wrong {
+        name: "refuses everything",
+        open: || store(RefusesAll),
+        breaks: &[Clause::Equality],
+    },
+    Wrong {
+        name: "calls all late",
+        open: || store(AllLate),
+        breaks: &[Clause::Equality],
+    },
+    Wrong {
+        name: "says spent before the limit",
+        open: || store(SpentEarly),
+        breaks: &[Clause::Equality],
+    },
+    Wrong {
+        name: "has a fixed tag",
+        open: || store(FixedTag),
+        breaks: &[Clause::Equality, Clause::Order, Clause::Values],
+    },
+    Wrong {
+        name: "reports no restarts",
+        open: || store(NoRestarts),
+        breaks: &[Clause::Equality, Clause::Restarts],
+    },
+    Wrong {
+        name: "counts heads and not weight",
+        open: || store(HeadCount),
+        breaks: &[Clause::Equality],
+    },
+];
