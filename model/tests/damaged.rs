@@ -14,7 +14,8 @@ use common::{seed, variable};
 use model::machine::calls::Right;
 use model::machine::program::Program;
 use model::runs::beside::Beside;
-use model::runs::damaged::{changed, draw_damaged};
+use model::runs::damaged::draw_damaged;
+use model::runs::still::changed;
 use model::weights::Ledger;
 
 const STEPS: u64 = 200_000;

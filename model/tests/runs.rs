@@ -16,13 +16,15 @@ use model::machine::transfers::Transfers;
 use model::runs::beside::Beside;
 use model::runs::check::broken;
 use model::runs::drawn::draw;
-use model::runs::tally::{Tally, REACHED};
+use model::runs::reach::REACHED;
+use model::runs::still::changed;
+use model::runs::tally::Tally;
 
 const STEPS: u64 = 200_000;
 
 const PLAIN_MACHINE: Beside = Beside {
     model: || Box::new(Program::<Transfers, _>::new(Right)),
-    check: |turns| broken(turns).into_iter().next(),
+    check: |turns| broken(turns).into_iter().next().or_else(|| changed(turns)),
 };
 
 #[test]

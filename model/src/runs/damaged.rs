@@ -1,14 +1,14 @@
 //! Runs in which messages are damaged or forged before they are served or
 //! heard. The model over counts and cells predicts each answer; and a refused
-//! or late call leaves the record as it was, which is shown before and after.
+//! or late call leaves the record as it was, which is shown afterwards, and
+//! before it too where the message is forged.
 
 use super::drawn::Run;
 use super::forge::forge;
-use super::observer::{Clause, Found};
 use super::pace::Pace;
 use super::player::{Player, ROOMY};
-use super::script::{Source, Turn};
-use super::seen::{refused, shown};
+use super::script::Source;
+use super::seen::shown;
 use super::store::Store;
 use crate::machine::command::Command;
 use crate::machine::server::Room;
@@ -37,6 +37,7 @@ pub fn draw_damaged(
         choices += 1;
         if player.random.one_in(2) {
             player.happen();
+            player.show_untaken();
         } else if let Some(words) = forged_step(&mut player) {
             count(words);
         }
@@ -112,26 +113,4 @@ fn forged_step(player: &mut Player) -> Option<String> {
         _ => &answer,
     };
     Some(format!("{call}: {answer}: {}", forged.words))
-}
-
-/// A call that was refused or late, between two lines that show the record of
-/// its party, which differ.
-pub fn changed(turns: &[Turn]) -> Option<Found> {
-    let around = turns.windows(3).find(|around| {
-        let call = &around[1];
-        let untaken = refused(call.answer()).is_some() || call.answer() == "late";
-        untaken
-            && around[0].text == around[2].text
-            && around[0].answer != around[2].answer
-            && shown(around[0].answer()).is_some()
-    })?;
-    Some(Found {
-        clause: Clause::Equality,
-        number: around[2].number,
-        words: format!(
-            "before the refused call: {}\nafter it: {}",
-            around[0].answer(),
-            around[2].answer()
-        ),
-    })
 }

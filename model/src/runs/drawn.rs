@@ -37,8 +37,11 @@ pub fn draw(seed: u64, number: u64, store: &mut dyn Store) -> Run {
     while player.steps < steps && choices < 20 * steps {
         player.happen();
         choices += 1;
+        if player.random.one_in(8) {
+            player.show_untaken();
+        }
         // Seldom a new cluster takes the place of the old.
-        if player.random.one_in(4_000) {
+        if player.random.one_in(2_000) {
             player.give(Command::House { n, f });
         }
     }

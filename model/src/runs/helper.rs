@@ -2,7 +2,7 @@
 //! that cannot be read or are past the program's bounds, comments, and houses
 //! that are refused. Nothing in the cluster may change by them.
 
-use super::player::Player;
+use super::player::{Player, ROOMY};
 use super::script::Source;
 use crate::cases::Case;
 use crate::machine::command::Command;
@@ -100,7 +100,8 @@ impl Player<'_> {
     fn past_bounds(&mut self) {
         let server = self.any_server();
         let length = LONGEST_LINE - self.random.index(2) + self.random.index(3);
-        let command: Command<Source> = match self.random.below(5) {
+        let desk = *self.known.desks.keys().next().unwrap_or(&1);
+        let command: Command<Source> = match self.random.below(7) {
             0 => Command::Share {
                 server,
                 room: Room {
@@ -115,6 +116,15 @@ impl Player<'_> {
                 bytes: self.random.bytes(2_048),
             },
             3 => Command::Text(filled("named 1 #", length)),
+            4 => Command::Serve {
+                server,
+                room: ROOMY,
+                message: Source::Bytes(self.random.bytes(2_049)),
+            },
+            5 => Command::Hear {
+                desk,
+                message: Source::Bytes(self.random.bytes(2_049)),
+            },
             _ => Command::Text(filled("what is this ", length)),
         };
         self.give(command);

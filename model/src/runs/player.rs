@@ -4,6 +4,7 @@
 use super::known::{Known, Post};
 use super::pace::Pace;
 use super::script::{Entry, Source, Stage, Turn};
+use super::seen::refused;
 use super::store::Store;
 use crate::machine::command::Command;
 use crate::machine::server::Room;
@@ -102,6 +103,22 @@ impl<'a> Player<'a> {
         self.known.flying.extend(post);
         if answer == "ok" {
             self.give(Command::RecordServer { server });
+        }
+    }
+
+    /// Shows the record of a party whose last step was refused or late.
+    pub fn show_untaken(&mut self) {
+        let Some(turn) = self.turns.last() else {
+            return;
+        };
+        if refused(turn.answer()).is_none() && turn.answer() != "late" {
+            return;
+        }
+        let command = &turn.command;
+        if let Some(server) = command.server().filter(|server| *server < self.known.n()) {
+            self.give(Command::RecordServer { server });
+        } else if let Some(desk @ 1..=65_535) = command.desk() {
+            self.give(Command::RecordDesk { desk });
         }
     }
 

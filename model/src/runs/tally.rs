@@ -11,71 +11,6 @@ use crate::machine::command::Command;
 use crate::machine::desk::Task;
 use crate::weights::Config;
 
-/// What the runs must reach, and how often at least in 200,000 steps.
-pub const REACHED: &[(&str, u64)] = &[
-    ("begin: accepted", 2_000),
-    ("begin: no 8", 50),
-    ("begin: no 14", 50),
-    ("ask: accepted", 10_000),
-    ("ask: no 1", 20),
-    ("ask: no 9", 50),
-    ("ask: no 13", 50),
-    ("share: accepted", 1_000),
-    ("share: no 13", 50),
-    ("serve: accepted request", 10_000),
-    ("serve: accepted share", 1_000),
-    ("serve: accepted share of its own", 50),
-    ("serve: no 7 for a reply", 50),
-    ("serve: no 7 for another server's request", 50),
-    ("serve: no 13", 50),
-    ("hear: accepted", 10_000),
-    ("hear: late, another round", 500),
-    ("hear: late, no operation", 200),
-    ("hear: no 7 for a request", 50),
-    ("hear: no 7 for a share", 20),
-    ("hear: no 7 for another desk's reply", 50),
-    ("hear: a message once more", 200),
-    ("result: accepted", 1_000),
-    ("result: no 9", 50),
-    ("drop: accepted", 50),
-    ("drop: no 9", 20),
-    ("transfer: accepted", 1_000),
-    ("transfer: no 10", 100),
-    ("transfer: no 11 for itself", 20),
-    ("transfer: no 11 for a taker of n or more", 20),
-    ("transfer: no 11 for nothing", 20),
-    ("crash: accepted", 20),
-    ("crash: more than f", 5),
-    ("restart: read, phase 1", 100),
-    ("restart: read, phase 2", 50),
-    ("restart: write, phase 1", 100),
-    ("restart: write, phase 2", 50),
-    ("result: 0 restarts", 500),
-    ("result: 1 restarts", 100),
-    ("result: 2 restarts", 50),
-    ("result: 3 restarts", 20),
-    ("result: 4 restarts", 10),
-    ("result: 5 restarts", 5),
-    ("ended: read", 500),
-    ("ended: write", 500),
-    ("write: value of 0 bytes", 50),
-    ("write: value of 64 bytes", 50),
-    ("buffer: from a place above 0", 1_000),
-    ("buffer: of just the right size", 50),
-    ("line: bounds", 20),
-    ("line: bounds, a 17th desk", 20),
-    ("line: what", 20),
-    ("line: without a word", 20),
-    ("line: no 1 before a house", 50),
-    ("line: no 1 for a server", 20),
-    ("line: no 1 for a desk", 20),
-    ("line: crashed", 20),
-    ("line: written in another way", 1_000),
-    ("house: refused", 20),
-    ("desk 1", 20),
-    ("desk 65535", 20),
-];
-
 /// What a desk was at when it was last seen.
 #[derive(Clone, Copy, Default)]
 struct Activity {
@@ -91,6 +26,8 @@ pub struct Tally {
     desks: BTreeMap<u64, Activity>,
     crashed: BTreeSet<u64>,
     heard: BTreeSet<(u64, usize)>,
+    /// The server whose record the line before showed, and its weight there.
+    weighed: Option<(u64, i64)>,
 }
 
 impl Tally {
@@ -134,6 +71,7 @@ impl Tally {
         }
         if let Command::House { n, f } = turn.command {
             if answer == "ok" {
+                self.reach_if(self.config.is_some(), "house: another after the first");
                 self.open(n, f);
             } else {
                 self.reach("house: refused");
@@ -147,6 +85,12 @@ impl Tally {
         if answer != "no 1" {
             self.see_step(turn, config);
         }
+        self.weighed = match turn.command {
+            Command::RecordServer { server } => {
+                shown(answer).map(|shown| (server, shown.weights[server as usize]))
+            }
+            _ => None,
+        };
     }
 
     fn open(&mut self, n: u64, f: u64) {
@@ -233,7 +177,10 @@ impl Tally {
                 Some(11) if amount == 0 => self.reach("transfer: no 11 for nothing"),
                 Some(11) if taker == giver => self.reach("transfer: no 11 for itself"),
                 Some(11) => self.reach("transfer: no 11 for a taker of n or more"),
-                _ => self.reach_call("transfer", no),
+                _ => {
+                    self.reach_call("transfer", no);
+                    self.see_spare(config, giver, amount, no);
+                }
             },
             Command::Crash { server } => {
                 self.reach("crash: accepted");
@@ -247,6 +194,21 @@ impl Tally {
             self.reach_if(room.at > 0, "buffer: from a place above 0");
             let exact = room.at + bytes.len() as u64 == room.len;
             self.reach_if(exact, "buffer: of just the right size");
+        }
+    }
+
+    /// A transfer at the edge of what the giver, just shown, can spare.
+    fn see_spare(&mut self, config: Config, giver: u64, amount: u64, no: Option<u8>) {
+        let weighed = self.weighed.filter(|(server, _)| *server == giver);
+        let (Some((_, weight)), Ok(amount)) = (weighed, i64::try_from(amount)) else {
+            return;
+        };
+        let edge = |rest: i64| config.above_floor(rest) && !config.above_floor(rest - 1);
+        if no.is_none() && edge(weight - amount) {
+            self.reach("transfer: accepted, all that can be spared");
+        }
+        if no == Some(10) && amount < weight && edge(weight - amount + 1) {
+            self.reach("transfer: no 10, one more than can be spared");
         }
     }
 
