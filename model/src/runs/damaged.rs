@@ -29,12 +29,10 @@ pub fn draw_damaged(
     pace.steps = random.within(60, 400);
     // With more desks than the program keeps, none would be forged for.
     pace.desks.truncate(4);
-    let (n, f, steps) = (pace.n, pace.f, pace.steps);
+    let (n, f) = (pace.n, pace.f);
     let mut player = Player::new(random, pace, store);
     player.give(Command::House { n, f });
-    let mut choices = 0;
-    while player.steps < steps && choices < 20 * steps {
-        choices += 1;
+    while player.goes_on() {
         if player.random.one_in(2) {
             player.happen();
             player.show_untaken();

@@ -21,7 +21,7 @@ pub struct Run {
 pub fn draw(seed: u64, number: u64, store: &mut dyn Store) -> Run {
     let mut random = Random::of_case(seed, number);
     let pace = Pace::draw(&mut random, number);
-    let (n, f, steps) = (pace.n, pace.f, pace.steps);
+    let (n, f) = (pace.n, pace.f);
     let mut player = Player::new(random, pace, store);
     if player.pace.early {
         early(&mut player);
@@ -32,11 +32,8 @@ pub fn draw(seed: u64, number: u64, store: &mut dyn Store) -> Run {
             player.give(Command::RecordDesk { desk });
         }
     }
-    // Choices that lead to no line are bounded too.
-    let mut choices = 0;
-    while player.steps < steps && choices < 20 * steps {
+    while player.goes_on() {
         player.happen();
-        choices += 1;
         if player.random.one_in(8) {
             player.show_untaken();
         }

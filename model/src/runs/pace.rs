@@ -22,6 +22,8 @@ pub struct Pace {
     /// Transfers, and how many of them give all that can be spared.
     pub transfers: u64,
     pub whole: u64,
+    /// Weight moves for so many choices, and rests for as many; 0 for always.
+    pub calm: u64,
     /// Times at which many give one all that they can spare.
     pub pours: u64,
     pub shares: u64,
@@ -64,6 +66,7 @@ impl Pace {
             desks: desks(random),
             at_once: *random.pick(&[2, 4, 17]),
             transfers: *random.pick(&[0, 4, 10, 20, 40, 80]),
+            calm: *random.pick(&[0, 60, 150, 300]),
             whole: random.below(1_000),
             pours: *random.pick(&[0, 0, 0, 2, 5]),
             shares: *random.pick(&[0, 5, 20, 60]),
@@ -106,6 +109,7 @@ impl Pace {
             desks,
             at_once: 2,
             transfers: *random.pick(&[0, 15, 40]),
+            calm: 0,
             whole: 900,
             pours: *random.pick(&[0, 10, 20]),
             shares: *random.pick(&[0, 5, 30]),

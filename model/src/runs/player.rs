@@ -22,6 +22,8 @@ pub struct Player<'a> {
     pub turns: Vec<Turn>,
     /// Steps of the store so far.
     pub steps: u64,
+    /// Choices of what to do next so far.
+    pub choices: u64,
     stage: Stage<'a>,
 }
 
@@ -35,8 +37,15 @@ impl<'a> Player<'a> {
             entries: Vec::new(),
             turns: Vec::new(),
             steps: 0,
+            choices: 0,
             stage: Stage::new(store),
         }
+    }
+
+    /// Whether the run has not come to its end. Choices that lead to no line
+    /// are bounded too.
+    pub fn goes_on(&self) -> bool {
+        self.steps < self.pace.steps && self.choices < 20 * self.pace.steps
     }
 
     /// Gives the store a line. What it sent, if anything, is not on its way yet.

@@ -14,6 +14,8 @@ impl Player<'_> {
     /// The next thing that happens.
     pub fn happen(&mut self) {
         let pace = &self.pace;
+        self.choices += 1;
+        let calm = self.choices.checked_div(pace.calm).unwrap_or(0) % 2 == 1;
         // Phase 2 is where moving weight does harm, if it does any.
         let in_second = self
             .known
@@ -21,8 +23,8 @@ impl Player<'_> {
             .values()
             .any(|desk| desk.running && desk.phase == 2);
         let rates = [
-            pace.transfers,
-            pace.pours * if in_second { 4 } else { 1 },
+            pace.transfers * u64::from(!calm),
+            pace.pours * u64::from(!calm) * if in_second { 4 } else { 1 },
             pace.shares,
             pace.losses,
             pace.crashes,

@@ -105,6 +105,7 @@ impl Player<'_> {
         let many = match self.random.below(4) {
             0 => 1,
             1 => 3,
+            2 => self.known.config.n() / 2 + 1,
             _ => MOST,
         };
         for server in servers.into_iter().take(many) {
