@@ -1,9 +1,25 @@
-//! A model of paper 01's messages, weights and seats, written by hand from the
-//! paper alone, to be compared with the proved library on random messages.
-//! The first group of modules is the model, the second the library behind the
-//! same four signatures, the third draws the cases on which they must agree
-//! and asks both.
-//! To run the comparison: `cd model && cargo test --release`.
+//! A model of paper 01, written by hand from the paper alone, to be compared
+//! with the proved library and the proved program.
+//!
+//! Messages, weights and seats: the first group of modules is the model, the
+//! second the library behind the same four signatures, the third draws the
+//! cases on which they must agree and asks both.
+//!
+//! Servers and desks, in two folders:
+//! - `machine`: the plain machine of "The runs of demand 3" over sets of
+//!   transfers (`transfers`), the same servers and desks over counts and cells
+//!   (`ledger`) for messages that were forged, and the program `cases` around
+//!   them, that speaks lines (`command`, `parse`, `record`, `program`).
+//! - `runs`: long random runs. A run is drawn (`pace`, `player`, `known`; what
+//!   happens in it: `traffic`, `work`, `weight`, `misuse`, `helper`; forged
+//!   messages: `damaged`, `forge`; `spent` is one long run to a counter's end),
+//!   played on a store (`store`, `script`, `process`), seen from outside
+//!   (`seen`), checked (`check`, `beside`, `observer`, `operations`, `still`),
+//!   counted (`tally`, `reach`) and made short where it fails (`shrink`).
+//!   `wrong` has the wrong stores that come close.
+//!
+//! To run the comparisons: `cd model && cargo test --release`, after
+//! `rt staticlib host` and `rt check cases`.
 
 pub mod answers;
 pub mod format;

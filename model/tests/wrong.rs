@@ -10,8 +10,9 @@ use model::machine::calls::Right;
 use model::machine::program::Program;
 use model::machine::transfers::Transfers;
 use model::runs::check::{broken, unequal, Clause};
-use model::runs::drawn::{draw, Run};
+use model::runs::drawn::draw;
 use model::runs::observer::Found;
+use model::runs::player::Run;
 use model::runs::script::{replay, Entry, Turn};
 use model::runs::shrink::{script_text, shrink};
 use model::runs::wrong::{Wrong, WRONG};
@@ -20,7 +21,7 @@ use model::runs::wrong::{Wrong, WRONG};
 const RUNS: u64 = 6_000;
 
 /// A script that is longer when shrunk is no help to a reader.
-const SHORT: usize = 60;
+const SHORT: usize = 100;
 
 type Machine = Program<Transfers, Right>;
 

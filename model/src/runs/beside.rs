@@ -49,7 +49,8 @@ impl Beside {
     }
 
     /// The run made short, as a script with comments. Lines that are given at
-    /// once are tried first: they never wait for an answer.
+    /// once are tried first, since they never wait for an answer; a run that
+    /// fails as a conversation only is not made short.
     fn report(&self, entries: &[Entry], number: u64) -> String {
         let play = |script: &[Entry], number: u64| {
             let expected = replay(script, (self.model)().as_mut());
@@ -61,7 +62,10 @@ impl Beside {
         let Some(number) = [0, 1, number].into_iter().find(fails) else {
             return "the run did not fail a second time".to_string();
         };
-        let script = shrink(entries, &mut |script| play(script, number).1.is_some());
+        let script = match is_conversation(number) {
+            true => entries.to_vec(),
+            false => shrink(entries, &mut |script| play(script, number).1.is_some()),
+        };
         match play(&script, number) {
             (turns, Some(found)) => {
                 let text = script_text(&turns, found.number, &found.words);
@@ -72,11 +76,15 @@ impl Beside {
     }
 }
 
+fn is_conversation(number: u64) -> bool {
+    number % CONVERSATIONS == CONVERSATIONS - 1
+}
+
 /// The same lines with the answers of a fresh process: given at once, with or
 /// without an end to the last line, or now and then one by one.
 pub fn answered(expected: &[Turn], number: u64) -> Vec<Turn> {
     let mut turns = expected.to_vec();
-    if number % CONVERSATIONS == CONVERSATIONS - 1 {
+    if is_conversation(number) {
         let mut conversation = Conversation::start();
         for turn in &mut turns {
             turn.answer = conversation.answer(&turn.text, &turn.command);

@@ -3,10 +3,9 @@
 //! or late call leaves the record as it was, which is shown afterwards, and
 //! before it too where the message is forged.
 
-use super::drawn::Run;
 use super::forge::forge;
 use super::pace::Pace;
-use super::player::{Player, ROOMY};
+use super::player::{Player, Run, ROOMY};
 use super::script::Source;
 use super::seen::shown;
 use super::store::Store;
@@ -40,19 +39,12 @@ pub fn draw_damaged(
             count(words);
         }
     }
-    Run {
-        entries: player.entries,
-        turns: player.turns,
-        steps: player.steps,
-    }
+    player.finish()
 }
 
 /// A party is shown, gets a forged message, and is shown again.
 fn forged_step(player: &mut Player) -> Option<String> {
-    let at_work: Vec<u64> = (player.known.desks.iter())
-        .filter(|(_, desk)| desk.running)
-        .map(|(number, _)| *number)
-        .collect();
+    let at_work = player.known.at_work();
     let (party, number) = if !at_work.is_empty() && !player.random.one_in(3) {
         (Party::Desk, *player.random.pick(&at_work))
     } else if player.random.one_in(8) {

@@ -1,21 +1,13 @@
 //! A run, drawn from a seed and its number by what a store answers.
 
 use super::pace::Pace;
-use super::player::{Player, ROOMY};
-use super::script::{Entry, Source, Turn};
+use super::player::{Player, Run, ROOMY};
+use super::script::Source;
 use super::store::Store;
 use crate::machine::command::Command;
 use crate::machine::desk::Task;
 use crate::machine::program::MOST_DESKS;
 use crate::random::Random;
-
-/// A run that was played: its script, and what the store answered.
-pub struct Run {
-    pub entries: Vec<Entry>,
-    pub turns: Vec<Turn>,
-    /// The steps of the store among them.
-    pub steps: u64,
-}
 
 /// Plays the run of this number among those of the seed.
 pub fn draw(seed: u64, number: u64, store: &mut dyn Store) -> Run {
@@ -42,11 +34,7 @@ pub fn draw(seed: u64, number: u64, store: &mut dyn Store) -> Run {
             player.give(Command::House { n, f });
         }
     }
-    Run {
-        entries: player.entries,
-        turns: player.turns,
-        steps: player.steps,
-    }
+    player.finish()
 }
 
 /// Lines before there is a house.

@@ -73,6 +73,12 @@ impl Known {
         (0..self.n()).filter(alive).collect()
     }
 
+    /// The desks that have an operation running.
+    pub fn at_work(&self) -> Vec<u64> {
+        let running = self.desks.iter().filter(|(_, desk)| desk.running);
+        running.map(|(number, _)| *number).collect()
+    }
+
     pub fn is_running(&self, desk: u64) -> bool {
         self.desks.get(&desk).is_some_and(|desk| desk.running)
     }

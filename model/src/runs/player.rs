@@ -14,6 +14,14 @@ use crate::weights::Config;
 /// A buffer with room for every message.
 pub const ROOMY: Room = Room { at: 0, len: 1_111 };
 
+/// A run that was played: its script, and what the store answered.
+pub struct Run {
+    pub entries: Vec<Entry>,
+    pub turns: Vec<Turn>,
+    /// The steps of the store among them.
+    pub steps: u64,
+}
+
 pub struct Player<'a> {
     pub random: Random,
     pub pace: Pace,
@@ -46,6 +54,15 @@ impl<'a> Player<'a> {
     /// are bounded too.
     pub fn goes_on(&self) -> bool {
         self.steps < self.pace.steps && self.choices < 20 * self.pace.steps
+    }
+
+    /// The run as it was played.
+    pub fn finish(self) -> Run {
+        Run {
+            entries: self.entries,
+            turns: self.turns,
+            steps: self.steps,
+        }
     }
 
     /// Gives the store a line. What it sent, if anything, is not on its way yet.

@@ -15,6 +15,9 @@ pub fn shrink(entries: &[Entry], fails: &mut dyn FnMut(&[Entry]) -> bool) -> Vec
         leave_out(&mut script, fails);
         make_plain(&mut script, fails);
         if script == before {
+            leave_out_two(&mut script, fails);
+        }
+        if script == before {
             return script;
         }
     }
@@ -48,6 +51,27 @@ fn leave_out(script: &mut Vec<Entry>, fails: &mut dyn FnMut(&[Entry]) -> bool) {
         } else {
             chunk / 2
         };
+    }
+}
+
+/// The longest script in which every two lines are tried.
+const SHORT: usize = 80;
+
+/// Leaves out two lines that stand apart, the first such two.
+fn leave_out_two(script: &mut Vec<Entry>, fails: &mut dyn FnMut(&[Entry]) -> bool) {
+    if script.len() > SHORT {
+        return;
+    }
+    for later in (1..script.len()).rev() {
+        for earlier in 0..later {
+            let mut shorter = script.clone();
+            shorter.remove(later);
+            shorter.remove(earlier);
+            if fails(&shorter) {
+                *script = shorter;
+                return;
+            }
+        }
     }
 }
 

@@ -18,6 +18,16 @@ struct Activity {
     restarts: u64,
 }
 
+/// A message that was sent: on which line, and how often it was given to
+/// somebody since.
+struct Posted {
+    line: usize,
+    given: u64,
+}
+
+/// So many lines later a message is delayed.
+const DELAY: usize = 100;
+
 #[derive(Default)]
 pub struct Tally {
     counts: BTreeMap<String, u64>,
@@ -26,6 +36,10 @@ pub struct Tally {
     desks: BTreeMap<u64, Activity>,
     crashed: BTreeSet<u64>,
     heard: BTreeSet<(u64, usize)>,
+    posts: Vec<Posted>,
+    /// The latest message that was given to somebody.
+    latest: usize,
+    lines: usize,
     /// The server whose record the line before showed, and its weight there.
     weighed: Option<(u64, i64)>,
 }
@@ -34,6 +48,15 @@ impl Tally {
     /// Forgets the cluster: the next run has its own.
     pub fn next_run(&mut self) {
         self.config = None;
+        self.close();
+    }
+
+    /// What was not given to anybody until now is lost.
+    fn close(&mut self) {
+        for post in std::mem::take(&mut self.posts) {
+            self.reach_if(post.given == 0, "message: lost");
+        }
+        self.latest = 0;
     }
 
     pub fn count(&self, words: &str) -> u64 {
@@ -59,6 +82,7 @@ impl Tally {
     }
 
     pub fn see(&mut self, turn: &Turn) {
+        self.lines += 1;
         let answer = turn.answer();
         let plain = turn.command.line(|message| &message.bytes);
         self.reach_if(turn.text != plain, "line: written in another way");
@@ -96,6 +120,7 @@ impl Tally {
     fn open(&mut self, n: u64, f: u64) {
         self.pairs.insert((n, f));
         self.config = Config::new(n, f).ok();
+        self.close();
         self.desks.clear();
         self.crashed.clear();
         self.heard.clear();
@@ -134,6 +159,12 @@ impl Tally {
 
     fn see_step(&mut self, turn: &Turn, config: Config) {
         let answer = turn.answer();
+        if let Command::Serve { message, .. } | Command::Hear { message, .. } = &turn.command {
+            message
+                .place
+                .into_iter()
+                .for_each(|place| self.see_given(place));
+        }
         let no = refused(answer);
         match &turn.command {
             Command::Begin { desk, task, .. } => {
@@ -194,7 +225,23 @@ impl Tally {
             self.reach_if(room.at > 0, "buffer: from a place above 0");
             let exact = room.at + bytes.len() as u64 == room.len;
             self.reach_if(exact, "buffer: of just the right size");
+            let line = self.lines;
+            self.posts.push(Posted { line, given: 0 });
         }
+    }
+
+    /// A message on its way to somebody.
+    fn see_given(&mut self, place: usize) {
+        let Some(post) = self.posts.get_mut(place) else {
+            return;
+        };
+        post.given += 1;
+        let again = post.given > 1;
+        let delayed = self.lines > post.line + DELAY;
+        self.reach_if(again, "message: given again");
+        self.reach_if(delayed, "message: given more than 100 lines later");
+        self.reach_if(place < self.latest, "message: given after a later one");
+        self.latest = self.latest.max(place);
     }
 
     /// A transfer at the edge of what the giver, just shown, can spare.

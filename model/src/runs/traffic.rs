@@ -1,6 +1,5 @@
-//! What happens next in a run: which of the things that can happen, and of
-//! these the messages' own, that arrive, late, twice, out of order or not at
-//! all, and the servers' that crash.
+//! What happens next in a run. Here: messages arrive, late, twice, out of order
+//! or not at all, servers crash, operations are dropped.
 
 use super::known::Post;
 use super::player::Player;
@@ -17,11 +16,8 @@ impl Player<'_> {
         self.choices += 1;
         let calm = self.choices.checked_div(pace.calm).unwrap_or(0) % 2 == 1;
         // Phase 2 is where moving weight does harm, if it does any.
-        let in_second = self
-            .known
-            .desks
-            .values()
-            .any(|desk| desk.running && desk.phase == 2);
+        let mut desks = self.known.desks.values();
+        let in_second = desks.any(|desk| desk.running && desk.phase == 2);
         let rates = [
             pace.transfers * u64::from(!calm),
             pace.pours * u64::from(!calm) * if in_second { 4 } else { 1 },
@@ -115,12 +111,7 @@ impl Player<'_> {
 
     /// A server crashes; seldom more than f, and seldom one a second time.
     fn crash(&mut self) {
-        let crashed = self
-            .known
-            .crashed
-            .iter()
-            .filter(|crashed| **crashed)
-            .count();
+        let crashed = self.known.config.n() - self.known.alive().len();
         let server = self.any_server();
         if crashed < self.known.config.f() || self.random.one_in(6) {
             self.give(Command::Crash { server });

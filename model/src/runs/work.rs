@@ -9,11 +9,7 @@ use crate::weights::{MOST, START};
 impl Player<'_> {
     /// A desk fetches its result, begins, or asks.
     pub fn work(&mut self) {
-        let known = self.known.desks.iter();
-        let at_work: Vec<u64> = known
-            .filter(|(_, desk)| desk.running)
-            .map(|(number, _)| *number)
-            .collect();
+        let at_work = self.known.at_work();
         let desk = if at_work.len() < self.pace.at_once {
             self.any_desk()
         } else {
