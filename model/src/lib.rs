@@ -15,7 +15,7 @@
 //!   messages: `damaged`, `forge`; `spent` is one long run to a counter's end),
 //!   played on a store (`store`, `script`, `process`), seen from outside
 //!   (`seen`), checked (`check`, `beside`, `observer`, `operations`, `still`),
-//!   counted (`tally`, `reach`) and made short where it fails (`shrink`).
+//!   counted (`tally`, `fate`, `reach`) and made short where it fails (`shrink`).
 //!   `wrong` has the wrong stores that come close.
 //!
 //! To run the comparisons: `cd model && cargo test --release`, after

@@ -6,16 +6,15 @@
 //! the counts are printed, but whether each is reached often enough is not
 //! asserted. `cargo test --release -- --nocapture` shows the table of counts.
 
+mod common;
 mod counts;
 
-use std::env;
-
+use common::{seed, variable};
 use counts::{place_words, Counts};
 use model::answers::open;
 use model::calls::{Answers, MODEL, PROVED};
 use model::cases::Case;
 
-const SEED: u64 = 20_240_601;
 const RUNS: u64 = 1_000_000;
 
 /// How often each number, place and edge has to be reached.
@@ -23,7 +22,7 @@ const OFTEN: u64 = 1_000;
 
 #[test]
 fn model_and_library_agree() {
-    let seed = variable("TOVRIDSA_SEED", SEED);
+    let seed = seed();
     let from = variable("TOVRIDSA_FROM", 0);
     let runs = variable("TOVRIDSA_RUNS", RUNS);
     println!("seed {seed}, {runs} cases from number {from}");
@@ -82,14 +81,4 @@ fn difference(seed: u64, number: u64, case: &Case, model: &Answers, library: &An
 fn hex(bytes: &[u8]) -> String {
     let pairs: Vec<String> = bytes.iter().map(|byte| format!("{byte:02X}")).collect();
     pairs.join(" ")
-}
-
-/// A number from the environment.
-fn variable(name: &str, default: u64) -> u64 {
-    match env::var(name) {
-        Ok(text) => text
-            .parse()
-            .unwrap_or_else(|_| panic!("{name} is no number: {text}")),
-        Err(_) => default,
-    }
 }

@@ -108,6 +108,19 @@ impl<M> Command<M> {
         )
     }
 
+    /// Whether it is about a message, a block or a map, and about no record.
+    pub fn takes_message_alone(&self) -> bool {
+        matches!(
+            self,
+            Command::Check { .. }
+                | Command::Weight { .. }
+                | Command::Quorum { .. }
+                | Command::Seats { .. }
+                | Command::Named { .. }
+                | Command::Value { .. }
+        )
+    }
+
     /// The desk that it names.
     pub fn desk(&self) -> Option<u64> {
         match self {

@@ -6,6 +6,7 @@ use super::player::{Player, ROOMY};
 use super::script::Source;
 use crate::cases::Case;
 use crate::machine::command::Command;
+use crate::machine::parse::parse;
 use crate::machine::program::LONGEST_LINE;
 use crate::machine::server::Room;
 use crate::random::{bad_cluster, block, server_map};
@@ -38,16 +39,22 @@ const UNREADABLE: [&str; 24] = [
     "result 1 ;",
 ];
 
+/// Characters that mean something in a line, or nearly.
+const CHARACTERS: [char; 18] = [
+    ' ', '\t', '\r', '#', '-', '+', '.', '0', '1', '9', 'A', 'a', 'F', 'G', 'x', 's', '~', '\'',
+];
+
 /// Lines without a word.
 const WORDLESS: [&str; 5] = ["", "   ", "\t\r", "# begin 1 read 0", "  # - "];
 
 impl Player<'_> {
     pub fn help(&mut self) {
-        match self.random.below(8) {
+        match self.random.below(9) {
             0 => {
                 let line = *self.random.pick(&UNREADABLE);
                 self.give(Command::Text(line.to_string()));
             }
+            8 => self.mangled(),
             1 => {
                 let line = *self.random.pick(&WORDLESS);
                 self.give(Command::Text(line.to_string()));
@@ -65,12 +72,8 @@ impl Player<'_> {
     /// The calls that take a message alone, on one that was sent or on any.
     pub fn of_message(&mut self) {
         let case = Case::draw(self.random.word(), 0);
-        let sent = self
-            .turns
-            .iter()
-            .rev()
-            .take(40)
-            .find_map(|turn| turn.sent());
+        let mut latest = self.turns.iter().rev().take(40);
+        let sent = latest.find_map(|turn| turn.sent());
         let bytes = match sent {
             Some(bytes) if !self.random.one_in(3) => bytes,
             _ => case.message,
@@ -94,6 +97,36 @@ impl Player<'_> {
             _ => Command::Value { bytes },
         };
         self.give(command);
+    }
+
+    /// A line of before with some characters changed, if nothing in the cluster
+    /// can change by it: it cannot be read, or is a call that takes a message
+    /// alone.
+    fn mangled(&mut self) {
+        let Some(turn) = self.turns.last() else {
+            return;
+        };
+        let mut line: Vec<char> = turn.text.chars().take(200).collect();
+        for _ in 0..self.random.within(1, 3) {
+            let place = self.random.index(line.len() + 1);
+            let character = *self.random.pick(&CHARACTERS);
+            match self.random.below(3) {
+                0 => line.insert(place, character),
+                1 if place < line.len() => line[place] = character,
+                _ if place < line.len() => {
+                    line.remove(place);
+                }
+                _ => {}
+            }
+        }
+        let line: String = line.into_iter().collect();
+        let harmless = match parse(&line) {
+            Ok(Some(command)) => command.takes_message_alone(),
+            _ => true,
+        };
+        if harmless {
+            self.give(Command::Text(line));
+        }
     }
 
     /// `bounds`, and just within.

@@ -11,6 +11,7 @@ pub mod check;
 pub mod damaged;
 pub mod drawn;
 pub mod dress;
+pub mod fate;
 pub mod forge;
 pub mod helper;
 pub mod known;

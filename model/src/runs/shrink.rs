@@ -135,21 +135,18 @@ const CHANGES: &[fn(&mut Entry)] = &[
     },
 ];
 
-/// A script for a reader: each line, and the answer to it as a comment. What
-/// was found stands in front of the line that shows it.
+/// A script for a reader: each line, and the answer to it as a comment, up to
+/// the line that shows what was found, with that in front.
 pub fn script_text(turns: &[Turn], found_at: usize, words: &str) -> String {
     let mut text = String::new();
-    for turn in turns {
-        if turn.number == found_at {
-            for line in words.lines() {
-                text += &format!("# {line}\n");
-            }
-        }
-        text += &turn.text;
-        if turn.number != found_at {
-            text += &format!(" # {}", turn.answer());
-        }
-        text.push('\n');
+    for turn in turns.iter().take_while(|turn| turn.number < found_at) {
+        text += &format!("{} # {}\n", turn.text, turn.answer());
+    }
+    for line in words.lines() {
+        text += &format!("# {line}\n");
+    }
+    if let Some(turn) = turns.iter().find(|turn| turn.number == found_at) {
+        text += &format!("{}\n", turn.text);
     }
     text
 }

@@ -4,6 +4,7 @@
 
 use std::collections::{BTreeMap, BTreeSet};
 
+use super::fate::Fates;
 use super::script::Turn;
 use super::seen::{refused, shown, told, Mode};
 use crate::format::{read, Kind};
@@ -18,16 +19,6 @@ struct Activity {
     restarts: u64,
 }
 
-/// A message that was sent: on which line, and how often it was given to
-/// somebody since.
-struct Posted {
-    line: usize,
-    given: u64,
-}
-
-/// So many lines later a message is delayed.
-const DELAY: usize = 100;
-
 #[derive(Default)]
 pub struct Tally {
     counts: BTreeMap<String, u64>,
@@ -36,10 +27,7 @@ pub struct Tally {
     desks: BTreeMap<u64, Activity>,
     crashed: BTreeSet<u64>,
     heard: BTreeSet<(u64, usize)>,
-    posts: Vec<Posted>,
-    /// The latest message that was given to somebody.
-    latest: usize,
-    lines: usize,
+    messages: Fates,
     /// The server whose record the line before showed, and its weight there.
     weighed: Option<(u64, i64)>,
 }
@@ -53,10 +41,9 @@ impl Tally {
 
     /// What was not given to anybody until now is lost.
     fn close(&mut self) {
-        for post in std::mem::take(&mut self.posts) {
-            self.reach_if(post.given == 0, "message: lost");
+        for words in self.messages.close() {
+            self.reach(words);
         }
-        self.latest = 0;
     }
 
     pub fn count(&self, words: &str) -> u64 {
@@ -82,7 +69,6 @@ impl Tally {
     }
 
     pub fn see(&mut self, turn: &Turn) {
-        self.lines += 1;
         let answer = turn.answer();
         let plain = turn.command.line(|message| &message.bytes);
         self.reach_if(turn.text != plain, "line: written in another way");
@@ -105,6 +91,13 @@ impl Tally {
         let Some(config) = self.config else {
             return self.reach_if(answer == "no 1", "line: no 1 before a house");
         };
+        if turn.command.takes_message_alone() {
+            let refusal = answer.starts_with("-10000") || answer == "no 1";
+            let end = if refusal { "refused" } else { "accepted" };
+            let line = turn.command.line(|message| &message.bytes);
+            let call = line.split(' ').next().unwrap_or_default();
+            return self.reach(format!("{call}: {end}"));
+        }
         self.see_parties(turn, config);
         if answer != "no 1" {
             self.see_step(turn, config);
@@ -159,11 +152,8 @@ impl Tally {
 
     fn see_step(&mut self, turn: &Turn, config: Config) {
         let answer = turn.answer();
-        if let Command::Serve { message, .. } | Command::Hear { message, .. } = &turn.command {
-            message
-                .place
-                .into_iter()
-                .for_each(|place| self.see_given(place));
+        for words in self.messages.see(turn) {
+            self.reach(words);
         }
         let no = refused(answer);
         match &turn.command {
@@ -225,23 +215,7 @@ impl Tally {
             self.reach_if(room.at > 0, "buffer: from a place above 0");
             let exact = room.at + bytes.len() as u64 == room.len;
             self.reach_if(exact, "buffer: of just the right size");
-            let line = self.lines;
-            self.posts.push(Posted { line, given: 0 });
         }
-    }
-
-    /// A message on its way to somebody.
-    fn see_given(&mut self, place: usize) {
-        let Some(post) = self.posts.get_mut(place) else {
-            return;
-        };
-        post.given += 1;
-        let again = post.given > 1;
-        let delayed = self.lines > post.line + DELAY;
-        self.reach_if(again, "message: given again");
-        self.reach_if(delayed, "message: given more than 100 lines later");
-        self.reach_if(place < self.latest, "message: given after a later one");
-        self.latest = self.latest.max(place);
     }
 
     /// A transfer at the edge of what the giver, just shown, can spare.

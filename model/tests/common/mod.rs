@@ -1,4 +1,4 @@
-//! Numbers from the environment, for the tests that play runs.
+//! Numbers from the environment, for the tests with random cases and runs.
 
 use std::env;
 
