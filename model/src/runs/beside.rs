@@ -58,13 +58,18 @@ impl Beside {
             let found = self.failure(&expected, &turns);
             (turns, found)
         };
-        let fails = |number: &u64| play(entries, *number).1.is_some();
-        let Some(number) = [0, 1, number].into_iter().find(fails) else {
+        let clause = |script: &[Entry], number| play(script, number).1.map(|found| found.clause);
+        let mut ways = [0, 1, number].into_iter();
+        let Some((number, broken)) =
+            ways.find_map(|number| Some((number, clause(entries, number)?)))
+        else {
             return "the run did not fail a second time".to_string();
         };
         let script = match is_conversation(number) {
             true => entries.to_vec(),
-            false => shrink(entries, &mut |script| play(script, number).1.is_some()),
+            false => shrink(entries, &mut |script| {
+                clause(script, number) == Some(broken)
+            }),
         };
         match play(&script, number) {
             (turns, Some(found)) => {

@@ -24,6 +24,8 @@ pub struct Operation {
     /// What phase 1 chose.
     pub chosen: Option<(Tag, Vec<u8>)>,
     pub ended: bool,
+    /// It may have chosen without that a record was shown afterwards.
+    unseen: bool,
     /// The restarts made, and the transfers first brought by them.
     made: u64,
     gain: u64,
@@ -35,6 +37,8 @@ struct Past {
     /// Its last operation, and whether that still runs.
     last: Option<usize>,
     running: bool,
+    /// Whether it heard something since its record was shown.
+    unshown: bool,
     /// The largest count that its hears brought, for each giver.
     brought: [u16; MOST],
 }
@@ -50,6 +54,7 @@ pub struct Operations {
 impl Operations {
     /// An accepted begin.
     pub fn begin(&mut self, desk: u16, writes: Option<Vec<u8>>) {
+        self.leave(desk);
         let past = self.desks.entry(desk).or_default();
         past.last = Some(self.list.len());
         past.running = true;
@@ -59,6 +64,7 @@ impl Operations {
             floor: self.highest_ended,
             chosen: None,
             ended: false,
+            unseen: false,
             made: 0,
             gain: 0,
         });
@@ -66,12 +72,23 @@ impl Operations {
 
     /// An accepted drop.
     pub fn drop(&mut self, desk: u16) {
+        self.leave(desk);
         self.desks.entry(desk).or_default().running = false;
+    }
+
+    /// The desk's operation is left; what it chose last was perhaps not seen.
+    fn leave(&mut self, desk: u16) {
+        let past = self.desks.entry(desk).or_default();
+        if let (Some(last), true) = (past.last, past.unshown) {
+            self.list[last].unseen |= self.list[last].chosen.is_none();
+        }
+        past.unshown = false;
     }
 
     /// A hear that was neither refused nor late, and the reply's sheet.
     pub fn hear(&mut self, desk: u16, sheet: &Ledger) {
         let past = self.desks.entry(desk).or_default();
+        past.unshown = true;
         let mut new = 0;
         for (brought, &count) in past.brought.iter_mut().zip(&sheet.counts) {
             new += u64::from(count.saturating_sub(*brought));
@@ -86,6 +103,7 @@ impl Operations {
     /// A desk's record as it was shown.
     pub fn show(&mut self, desk: u16, shown: &ShownDesk) -> Vec<Breach> {
         let past = self.desks.entry(desk).or_default();
+        past.unshown = false;
         let (Some(last), true) = (past.last, past.running) else {
             return Vec::new();
         };
@@ -136,8 +154,11 @@ impl Operations {
         breaches
     }
 
-    /// The clause of values, over the whole list.
+    /// The clause of values, over the whole list. A tag that no write was seen
+    /// to have is no breach where what some write chose was not shown.
     pub fn values(&self) -> Option<Breach> {
+        let unshown = self.desks.values().any(|past| past.unshown);
+        let unseen = unshown || self.list.iter().any(|one| one.unseen);
         let mut writes: BTreeMap<Tag, Vec<&[u8]>> = BTreeMap::new();
         for operation in &self.list {
             if let (Some((tag, _)), Some(value)) = (&operation.chosen, &operation.writes) {
@@ -151,7 +172,7 @@ impl Operations {
             };
             let given = writes.get(tag).map_or(&[][..], |given| given);
             let lawful = match given {
-                [] => *tag == Tag::default() && value.is_empty(),
+                [] => unseen || *tag == Tag::default() && value.is_empty(),
                 [given] => *tag != Tag::default() && (value == given || !read.ended),
                 _ => false,
             };
