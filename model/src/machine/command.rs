@@ -26,6 +26,7 @@ pub enum Command<M> {
     Seats { bytes: Vec<u8> },
     Named { map: u16 },
     Value { bytes: Vec<u8> },
+    Message { n: u64, f: u64, bytes: Vec<u8> },
     RecordServer { server: u64 },
     RecordDesk { desk: u64 },
     Text(String),
@@ -86,6 +87,11 @@ impl<M> Command<M> {
             Command::Value { bytes } => Command::Value {
                 bytes: bytes.clone(),
             },
+            Command::Message { n, f, bytes } => Command::Message {
+                n: *n,
+                f: *f,
+                bytes: bytes.clone(),
+            },
             &Command::RecordServer { server } => Command::RecordServer { server },
             &Command::RecordDesk { desk } => Command::RecordDesk { desk },
             Command::Text(text) => Command::Text(text.clone()),
@@ -118,6 +124,7 @@ impl<M> Command<M> {
                 | Command::Seats { .. }
                 | Command::Named { .. }
                 | Command::Value { .. }
+                | Command::Message { .. }
         )
     }
 
@@ -191,6 +198,7 @@ impl<M> Command<M> {
             Command::Seats { bytes } => format!("seats {}", hex(bytes)),
             Command::Named { map } => format!("named {map}"),
             Command::Value { bytes } => format!("value {}", hex(bytes)),
+            Command::Message { n, f, bytes } => format!("message {n} {f} {}", hex(bytes)),
             Command::RecordServer { server } => format!("record server {server}"),
             Command::RecordDesk { desk } => format!("record desk {desk}"),
             Command::Text(text) => text.clone(),

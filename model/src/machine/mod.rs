@@ -19,3 +19,4 @@ pub mod register;
 pub mod server;
 pub mod sheet;
 pub mod transfers;
+pub mod vector;

@@ -135,6 +135,11 @@ impl<'a> Words<'a> {
             "value" => Command::Value {
                 bytes: self.bytes()?,
             },
+            "message" => Command::Message {
+                n: self.number()?,
+                f: self.number()?,
+                bytes: self.bytes()?,
+            },
             "record" => match self.word()? {
                 "server" => Command::RecordServer {
                     server: self.number()?,

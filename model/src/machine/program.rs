@@ -13,6 +13,7 @@ use super::parse::parse;
 use super::record::{desk_line, server_line};
 use super::server::Room;
 use super::sheet::{Handed, Sheet};
+use super::vector::vector;
 use crate::answers;
 use crate::weights::Config;
 
@@ -209,6 +210,9 @@ impl<S: Sheet, C: Calls<S>> Program<S, C> {
                 };
                 return Answer::Words(hex(register.map_or(&[], |register| register.value)));
             }
+            Command::Message { n, f, bytes } => {
+                return vector(*n, *f, bytes).map_or_else(Answer::Refused, Answer::Words)
+            }
             _ => return Answer::What,
         };
         Answer::Words(number.to_string())
@@ -279,7 +283,8 @@ fn check_bounds(command: &Command<Handed>) -> Step<()> {
         | Command::Weight { bytes, .. }
         | Command::Quorum { bytes, .. }
         | Command::Seats { bytes }
-        | Command::Value { bytes } => bytes.len() <= LONGEST_BYTES,
+        | Command::Value { bytes }
+        | Command::Message { bytes, .. } => bytes.len() <= LONGEST_BYTES,
         _ => true,
     };
     if within {

@@ -78,7 +78,7 @@ impl Player<'_> {
             Some(bytes) if !self.random.one_in(3) => bytes,
             _ => case.message,
         };
-        let command = match self.random.below(6) {
+        let command = match self.random.below(7) {
             0 => Command::Check { bytes },
             1 => {
                 let server = case.server;
@@ -94,7 +94,11 @@ impl Player<'_> {
             4 => Command::Named {
                 map: server_map(&mut self.random, self.known.n()) as u16,
             },
-            _ => Command::Value { bytes },
+            5 => Command::Value { bytes },
+            _ => {
+                let (n, f) = (case.n, case.f);
+                Command::Message { n, f, bytes }
+            }
         };
         self.give(command);
     }

@@ -70,6 +70,8 @@ pub const REACHED: &[(&str, u64)] = &[
     ("named: accepted", 20),
     ("named: refused", 3),
     ("value: accepted", 20),
+    ("message: accepted", 20),
+    ("message: refused", 20),
     ("line: bounds", 20),
     ("line: bounds, a 17th desk", 20),
     ("line: what", 20),

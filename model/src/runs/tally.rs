@@ -92,7 +92,7 @@ impl Tally {
             return self.reach_if(answer == "no 1", "line: no 1 before a house");
         };
         if turn.command.takes_message_alone() {
-            let refusal = answer.starts_with("-10000") || answer == "no 1";
+            let refusal = answer.starts_with("-10000") || refused(answer).is_some();
             let end = if refusal { "refused" } else { "accepted" };
             let line = turn.command.line(|message| &message.bytes);
             let call = line.split(' ').next().unwrap_or_default();
