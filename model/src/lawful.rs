@@ -93,7 +93,7 @@ pub fn make_light(random: &mut Random, config: Config, ledger: &mut Ledger) {
     if total(&ledger.cells[giver]) == MOST_IN_ROW {
         *ledger = Ledger::FRESH;
     }
-    let rest = spare(config, ledger.weights()[giver]);
+    let rest = config.spare(ledger.weights()[giver]) as u32;
     let beyond = match random.below(4) {
         0..=1 => 1,
         2 => random.within(1, 2_000),
@@ -101,12 +101,6 @@ pub fn make_light(random: &mut Random, config: Config, ledger: &mut Ledger) {
     };
     ledger.cells[giver][taker] += rest + beyond as u32;
     add_counts(random, ledger);
-}
-
-/// What a server of this weight can give and stay above the floor.
-fn spare(config: Config, weight: i64) -> u32 {
-    let highest_light = config.total() / (2 * (config.n() - config.f()) as i64);
-    (weight - 1 - highest_light) as u32
 }
 
 /// A few gifts, each within what the giver can spare; or one gift of 1, which
@@ -121,7 +115,7 @@ fn add_gifts(random: &mut Random, config: Config, ledger: &mut Ledger) {
     let mut weights = ledger.weights();
     for _ in 0..random.within(1, 2 * config.n() as u64) {
         let (giver, taker) = two_servers(random, config);
-        let spare = spare(config, weights[giver]).into();
+        let spare = config.spare(weights[giver]) as u64;
         if spare > 0 {
             let gift = match random.below(4) {
                 0 => spare,

@@ -51,6 +51,18 @@ impl Config {
         weight * 2 * (self.n - self.f) as i64 > self.total()
     }
 
+    /// What a server of this weight can give and stay above the floor; below 0
+    /// if it is light.
+    pub fn spare(self, weight: i64) -> i64 {
+        weight - 1 - self.total() / (2 * (self.n - self.f) as i64)
+    }
+
+    /// Whether the servers that a map names carry more than half of the weight.
+    pub fn is_quorum(self, weights: &[i64; MOST], map: u16) -> bool {
+        let named: i64 = bits(map).map(|server| weights[server]).sum();
+        2 * named > self.total()
+    }
+
     /// Whether a map names servers below n only.
     pub fn names_servers(self, map: u64) -> bool {
         map >> self.n == 0
@@ -94,9 +106,7 @@ impl Ledger {
 
     /// Whether the servers that a map names carry more than half of the weight.
     pub fn is_quorum(&self, config: Config, map: u16) -> bool {
-        let weights = self.weights();
-        let named: i64 = bits(map).map(|server| weights[server]).sum();
-        2 * named > config.total()
+        config.is_quorum(&self.weights(), map)
     }
 }
 

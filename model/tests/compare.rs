@@ -14,6 +14,7 @@ use counts::{place_words, Counts};
 use model::answers::open;
 use model::calls::{Answers, MODEL, PROVED};
 use model::cases::Case;
+use model::machine::command::hex;
 
 const RUNS: u64 = 1_000_000;
 
@@ -76,9 +77,4 @@ fn difference(seed: u64, number: u64, case: &Case, model: &Answers, library: &An
         "again: TOVRIDSA_SEED={seed} TOVRIDSA_FROM={number} TOVRIDSA_RUNS=1"
     ));
     lines.join("\n")
-}
-
-fn hex(bytes: &[u8]) -> String {
-    let pairs: Vec<String> = bytes.iter().map(|byte| format!("{byte:02X}")).collect();
-    pairs.join(" ")
 }

@@ -14,7 +14,7 @@ use model::machine::calls::Right;
 use model::machine::program::Program;
 use model::machine::transfers::Transfers;
 use model::runs::beside::Beside;
-use model::runs::check::broken;
+use model::runs::check::{broken, sees_all};
 use model::runs::drawn::draw;
 use model::runs::reach::REACHED;
 use model::runs::still::changed;
@@ -40,6 +40,7 @@ fn program_and_machine_agree() {
         let turns = PLAIN_MACHINE
             .compare(&run.entries, &run.turns, number)
             .unwrap_or_else(|report| panic!("seed {seed}, run {number}: {report}"));
+        assert!(sees_all(&turns), "run {number} hides a record");
         tally.next_run();
         turns.iter().for_each(|turn| tally.see(turn));
         steps += run.steps;

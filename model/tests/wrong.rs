@@ -9,7 +9,7 @@ use common::{seed, variable};
 use model::machine::calls::Right;
 use model::machine::program::Program;
 use model::machine::transfers::Transfers;
-use model::runs::check::{broken, unequal, Clause};
+use model::runs::check::{broken, sees_all, unequal, Clause};
 use model::runs::drawn::draw;
 use model::runs::observer::Found;
 use model::runs::player::Run;
@@ -35,6 +35,7 @@ fn the_plain_machine_passes() {
     let runs = variable("TOVRIDSA_RUNS", 200);
     for number in 0..runs {
         let run = draw(seed, number, &mut machine());
+        assert!(sees_all(&run.turns), "run {number} hides a record");
         if let Some(found) = broken(&run.turns).first() {
             panic!("seed {seed}, run {number}: {found:?}");
         }

@@ -5,7 +5,7 @@
 use super::letter::Letter;
 use super::number::No;
 use super::register::Pair;
-use crate::weights::{bits, Config, Ledger, MOST};
+use crate::weights::{Config, Ledger, MOST};
 
 /// A sheet of transfers.
 pub trait Sheet: Clone {
@@ -43,9 +43,7 @@ pub trait Sheet: Clone {
 
     /// Whether the servers that a map names carry more than half of the weight.
     fn is_quorum(&self, config: Config, map: u16) -> bool {
-        let weights = self.weights();
-        let named: i64 = bits(map).map(|server| weights[server]).sum();
-        2 * named > config.total()
+        config.is_quorum(&self.weights(), map)
     }
 }
 

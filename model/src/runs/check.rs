@@ -4,6 +4,7 @@
 use super::observer::{Found, Observer};
 use super::script::Turn;
 use super::store::Store;
+use crate::machine::command::Command;
 
 pub use super::observer::Clause;
 
@@ -31,6 +32,20 @@ pub fn difference(expected: Option<&str>, answered: Option<&str>) -> String {
         words(expected),
         words(answered)
     )
+}
+
+/// Whether the record of a desk is shown right after each reply that it takes:
+/// then the clauses below see each choice and each end when it comes. It is so
+/// in every run that was drawn, and need not be in one that was made short.
+pub fn sees_all(turns: &[Turn]) -> bool {
+    turns.iter().enumerate().all(|(place, turn)| {
+        let Command::Hear { desk: hears, .. } = turn.command else {
+            return true;
+        };
+        let next = turns.get(place + 1).map(|next| &next.command);
+        let shown = matches!(next, Some(Command::RecordDesk { desk }) if *desk == hears);
+        turn.answer() != "ok" || shown
+    })
 }
 
 /// The clauses that the turns break, each where it is first seen.

@@ -8,7 +8,7 @@ use super::script::Turn;
 use super::seen::{shown, Mode};
 use crate::format::{read, Kind};
 use crate::machine::command::Command;
-use crate::weights::Config;
+use crate::weights::{Config, START};
 
 /// A message, named by the line that sent it.
 #[derive(Clone, Debug)]
@@ -57,7 +57,7 @@ impl Known {
             config,
             desks: BTreeMap::new(),
             crashed: vec![false; config.n()],
-            weights: vec![1_000; config.n()],
+            weights: vec![START; config.n()],
             flying: Vec::new(),
             sent: Vec::new(),
         }
@@ -85,8 +85,7 @@ impl Known {
 
     /// What a server can give and stay above the floor.
     pub fn spare(&self, server: u64) -> u64 {
-        let floor = self.config.total() / (2 * (self.config.n() - self.config.f()) as i64);
-        let spare = self.weights[server as usize] - 1 - floor;
+        let spare = self.config.spare(self.weights[server as usize]);
         spare.max(0) as u64
     }
 

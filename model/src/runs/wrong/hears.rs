@@ -48,10 +48,13 @@ fn mark_with(
     })
 }
 
-/// In phase 2 a reply with a larger sheet marks its server, and is not joined.
-pub struct OtherSheet;
+/// What a desk does with a current reply.
+type Heed = fn(&mut PlainDesk, Config, Operation, &Letter<Transfers>) -> Result<(), No>;
 
-impl Calls<Transfers> for OtherSheet {
+/// A store whose desks do something else with every current reply.
+pub struct Heeding(pub Heed);
+
+impl Calls<Transfers> for Heeding {
     fn hear(
         &self,
         cluster: &mut Cluster<Transfers>,
@@ -59,17 +62,85 @@ impl Calls<Transfers> for OtherSheet {
         letter: &Letter<Transfers>,
     ) -> Result<Heard, No> {
         hear_with(cluster, desk, letter, |desk, config, operation| {
-            let larger = desk.pair.sheet.lacks(&letter.pair.sheet);
-            if larger && operation.phase == Phase::First {
-                return desk.restart(operation, letter);
-            }
-            let pair = if larger { &desk.pair } else { &letter.pair };
-            let counted = Letter {
-                pair: pair.clone(),
-                ..letter.clone()
-            };
-            desk.mark(config, operation, &counted)
+            (self.0)(desk, config, operation, letter)
         })
+    }
+}
+
+/// A store whose desks do something else with a reply on an equal sheet.
+pub struct Marking(pub Heed);
+
+impl Calls<Transfers> for Marking {
+    fn hear(
+        &self,
+        cluster: &mut Cluster<Transfers>,
+        desk: u16,
+        letter: &Letter<Transfers>,
+    ) -> Result<Heard, No> {
+        mark_with(cluster, desk, letter, |desk, config, operation| {
+            (self.0)(desk, config, operation, letter)
+        })
+    }
+}
+
+/// In phase 2 a reply with a larger sheet marks its server, and is not joined.
+pub const OTHER_SHEET: Heeding = Heeding(|desk, config, operation, letter| {
+    let larger = desk.pair.sheet.lacks(&letter.pair.sheet);
+    if larger && operation.phase == Phase::First {
+        return desk.restart(operation, letter);
+    }
+    let pair = if larger { &desk.pair } else { &letter.pair };
+    let counted = Letter {
+        pair: pair.clone(),
+        ..letter.clone()
+    };
+    desk.mark(config, operation, &counted)
+});
+
+/// The first reply ends the operation, in whatever phase, on whatever sheet.
+pub const FIRST_REPLY: Heeding = Heeding(|desk, _, operation, letter| {
+    let pair = desk.pair.join(&letter.pair);
+    let register = chosen(&operation.task, desk.number, &pair.register)?;
+    desk.finish(&operation, pair, register);
+    Ok(())
+});
+
+/// A quorum in phase 2 changes nothing.
+pub const NEVER_ENDS: Marking = Marking(|desk, config, operation, letter| match operation.phase {
+    Phase::First => desk.mark(config, operation, letter),
+    Phase::Second(_) => desk.marked(operation, letter, false),
+});
+
+/// Every write chooses the tag (1, 1).
+pub const FIXED_TAG: Marking = Marking(|desk, config, mut operation, letter| {
+    operation.answered |= 1 << letter.server;
+    let quorum = desk.pair.sheet.is_quorum(config, operation.answered);
+    match (&operation.task, &operation.phase) {
+        (Task::Write(value), Phase::First) if quorum => {
+            let pair = desk.pair.join(&letter.pair);
+            let register = Register {
+                tag: Tag { stamp: 1, desk: 1 },
+                value: value.clone(),
+            };
+            desk.choose(operation, pair, register)
+        }
+        _ => desk.marked(operation, letter, quorum),
+    }
+});
+
+/// A majority of the servers is a quorum, whatever they weigh.
+pub const HEAD_COUNT: Marking = Marking(|desk, config, mut operation, letter| {
+    operation.answered |= 1 << letter.server;
+    let heads = 2 * operation.answered.count_ones() as usize > config.n();
+    desk.marked(operation, letter, heads)
+});
+
+/// Every reply is late.
+pub struct AllLate;
+
+impl Calls<Transfers> for AllLate {
+    fn hear(&self, _: &mut Cluster<Transfers>, _: u16, _: &Letter<Transfers>) -> Result<Heard, No> {
+        Ok(Heard::Late)
     }
 }
 
@@ -96,102 +167,6 @@ impl Calls<Transfers> for CountedTwice {
             *weight += desk.pair.sheet.weights()[usize::from(letter.server)];
             operation.answered |= 1 << letter.server;
             desk.marked(operation, letter, 2 * *weight > config.total())
-        })
-    }
-}
-
-/// The first reply ends the operation, in whatever phase, on whatever sheet.
-pub struct FirstReply;
-
-impl Calls<Transfers> for FirstReply {
-    fn hear(
-        &self,
-        cluster: &mut Cluster<Transfers>,
-        desk: u16,
-        letter: &Letter<Transfers>,
-    ) -> Result<Heard, No> {
-        hear_with(cluster, desk, letter, |desk, _, operation| {
-            let pair = desk.pair.join(&letter.pair);
-            let register = chosen(&operation.task, desk.number, &pair.register)?;
-            desk.finish(&operation, pair, register);
-            Ok(())
-        })
-    }
-}
-
-/// A quorum in phase 2 changes nothing.
-pub struct NeverEnds;
-
-impl Calls<Transfers> for NeverEnds {
-    fn hear(
-        &self,
-        cluster: &mut Cluster<Transfers>,
-        desk: u16,
-        letter: &Letter<Transfers>,
-    ) -> Result<Heard, No> {
-        mark_with(
-            cluster,
-            desk,
-            letter,
-            |desk, config, operation| match operation.phase {
-                Phase::First => desk.mark(config, operation, letter),
-                Phase::Second(_) => desk.marked(operation, letter, false),
-            },
-        )
-    }
-}
-
-/// Every reply is late.
-pub struct AllLate;
-
-impl Calls<Transfers> for AllLate {
-    fn hear(&self, _: &mut Cluster<Transfers>, _: u16, _: &Letter<Transfers>) -> Result<Heard, No> {
-        Ok(Heard::Late)
-    }
-}
-
-/// Every write chooses the tag (1, 1).
-pub struct FixedTag;
-
-impl Calls<Transfers> for FixedTag {
-    fn hear(
-        &self,
-        cluster: &mut Cluster<Transfers>,
-        desk: u16,
-        letter: &Letter<Transfers>,
-    ) -> Result<Heard, No> {
-        mark_with(cluster, desk, letter, |desk, config, mut operation| {
-            operation.answered |= 1 << letter.server;
-            let quorum = desk.pair.sheet.is_quorum(config, operation.answered);
-            match (&operation.task, &operation.phase) {
-                (Task::Write(value), Phase::First) if quorum => {
-                    let pair = desk.pair.join(&letter.pair);
-                    let register = Register {
-                        tag: Tag { stamp: 1, desk: 1 },
-                        value: value.clone(),
-                    };
-                    desk.choose(operation, pair, register)
-                }
-                _ => desk.marked(operation, letter, quorum),
-            }
-        })
-    }
-}
-
-/// A majority of the servers is a quorum, whatever they weigh.
-pub struct HeadCount;
-
-impl Calls<Transfers> for HeadCount {
-    fn hear(
-        &self,
-        cluster: &mut Cluster<Transfers>,
-        desk: u16,
-        letter: &Letter<Transfers>,
-    ) -> Result<Heard, No> {
-        mark_with(cluster, desk, letter, |desk, config, mut operation| {
-            operation.answered |= 1 << letter.server;
-            let heads = 2 * operation.answered.count_ones() as usize > config.n();
-            desk.marked(operation, letter, heads)
         })
     }
 }

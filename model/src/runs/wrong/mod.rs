@@ -10,7 +10,7 @@ use crate::machine::calls::Calls;
 use crate::machine::program::Program;
 use crate::machine::transfers::Transfers;
 use calls::{NoRestarts, RefusesAll, SheetAlone, SpentEarly, Unheard};
-use hears::{AllLate, CountedTwice, FirstReply, FixedTag, HeadCount, NeverEnds, OtherSheet};
+use hears::{AllLate, CountedTwice, FIRST_REPLY, FIXED_TAG, HEAD_COUNT, NEVER_ENDS, OTHER_SHEET};
 
 /// A wrong store: its name, how it is opened, and the clauses that the paper
 /// says it breaks.
@@ -34,7 +34,7 @@ pub const WRONG: &[Wrong] = &[
     },
     Wrong {
         name: "counts a reply made on another sheet",
-        open: || store(OtherSheet),
+        open: || store(OTHER_SHEET),
         breaks: &[Clause::Order],
     },
     Wrong {
@@ -49,12 +49,12 @@ pub const WRONG: &[Wrong] = &[
     },
     Wrong {
         name: "ends at its first reply and idles after",
-        open: || store(FirstReply),
+        open: || store(FIRST_REPLY),
         breaks: &[Clause::Equality],
     },
     Wrong {
         name: "never ends",
-        open: || store(NeverEnds),
+        open: || store(NEVER_ENDS),
         breaks: &[Clause::Equality],
     },
     Wrong {
@@ -74,7 +74,7 @@ pub const WRONG: &[Wrong] = &[
     },
     Wrong {
         name: "has a fixed tag",
-        open: || store(FixedTag),
+        open: || store(FIXED_TAG),
         breaks: &[Clause::Equality, Clause::Order, Clause::Values],
     },
     Wrong {
@@ -84,7 +84,7 @@ pub const WRONG: &[Wrong] = &[
     },
     Wrong {
         name: "counts heads and not weight",
-        open: || store(HeadCount),
+        open: || store(HEAD_COUNT),
         breaks: &[Clause::Equality],
     },
 ];
