@@ -45,29 +45,14 @@ fn is_space(c: u8) -> bool {
     }
 }
 
-// The first place from `from` on that is no space, or the end.
-fn skip_spaces(text: &[u8], from: usize) -> usize
+// The first place from `from` on that is past spaces, or past what is no space; or the end.
+fn skip(text: &[u8], from: usize, spaces: bool) -> usize
     requires { ⌜ from ≤ length (now text) ⌝ }
     ensures { λ r. ⌜ (from ≤ r) × (r ≤ length (now (text .entry))) ⌝ }
 {
     let mut at = from;
     while at < text.len() {
-        if !is_space(text[at]) {
-            return at;
-        }
-        at += 1;
-    }
-    at
-}
-
-// The first place from `from` on that is a space, or the end.
-fn skip_word(text: &[u8], from: usize) -> usize
-    requires { ⌜ from ≤ length (now text) ⌝ }
-    ensures { λ r. ⌜ (from ≤ r) × (r ≤ length (now (text .entry))) ⌝ }
-{
-    let mut at = from;
-    while at < text.len() {
-        if is_space(text[at]) {
+        if is_space(text[at]) != spaces {
             return at;
         }
         at += 1;
@@ -79,11 +64,11 @@ fn skip_word(text: &[u8], from: usize) -> usize
 fn word_start(text: &[u8], before: usize) -> usize
     ensures { λ r. ⌜ r ≤ length (now (text .entry)) ⌝ }
 {
-    let mut at = skip_spaces(text, 0);
+    let mut at = skip(text, 0, true);
     let mut k: usize = 0;
     while k < before {
-        at = skip_word(text, at);
-        at = skip_spaces(text, at);
+        at = skip(text, at, false);
+        at = skip(text, at, true);
         k += 1;
     }
     at
@@ -92,7 +77,7 @@ fn word_start(text: &[u8], before: usize) -> usize
 // The word after `before` others; empty where there is none.
 pub(crate) fn nth_word(text: &[u8], before: usize) -> &[u8] {
     let from = word_start(text, before);
-    let end = skip_word(text, from);
+    let end = skip(text, from, false);
     &text[from..end]
 }
 
@@ -235,7 +220,7 @@ fn decode_pairs(text: &[u8], out: &mut [u8]) -> Decoded
         }
         put(out, count, pair(text[at], text[at + 1]));
         count += 1;
-        at = skip_spaces(text, at + 2);
+        at = skip(text, at + 2, true);
     }
     Decoded { ok: true, count }
 }

@@ -48,11 +48,11 @@ put-requires c κs = search needs
 add-count : tie.Need-add-count Inv-loop μ-loop
 add-count c = search needs
 
-add-skip-spaces : tie.Need-add-skip-spaces Inv-loop μ-loop
-add-skip-spaces c = search needs
+add-skip : tie.Need-add-skip Inv-loop μ-loop
+add-skip c = search needs
 
-skip-spaces-requires : tie.Need-skip-spaces-requires Inv-loop μ-loop
-skip-spaces-requires c κs = within (c .before .before .before .before .before .before .before)
+skip-requires : tie.Need-skip-requires Inv-loop μ-loop
+skip-requires c κs = within (c .before .before .before .before .before .before .before)
 
 loop-less : tie.Need-loop-less Inv-loop μ-loop
 loop-less c = search needs
@@ -82,8 +82,8 @@ decode-pairs-spec =
     pair-requires
     put-requires
     add-count
-    add-skip-spaces
-    skip-spaces-requires
+    add-skip
+    skip-requires
     loop-less
     loop-again
     same-length-2

@@ -11,17 +11,17 @@ Inv-loop text before at₀ k₀ at k = (at ≤ length text) × (k ≤ before)
 abbrev μ-loop : tie.MeasureT-loop
 μ-loop text before at₀ k₀ at k = before - k
 
-skip-spaces-requires : tie.Need-skip-spaces-requires Inv-loop μ-loop
-skip-spaces-requires c κs = search needs
+skip-requires : tie.Need-skip-requires Inv-loop μ-loop
+skip-requires c κs = search needs
 
 loop-holds : tie.Need-loop-holds Inv-loop μ-loop
 loop-holds c = search needs
 
-skip-word-requires : tie.Need-skip-word-requires Inv-loop μ-loop
-skip-word-requires c κs = search needs
+skip-requires-2 : tie.Need-skip-requires-2 Inv-loop μ-loop
+skip-requires-2 c κs = search needs
 
-skip-spaces-requires-2 : tie.Need-skip-spaces-requires-2 Inv-loop μ-loop
-skip-spaces-requires-2 c κs = search needs
+skip-requires-3 : tie.Need-skip-requires-3 Inv-loop μ-loop
+skip-requires-3 c κs = search needs
 
 add-k : tie.Need-add-k Inv-loop μ-loop
 add-k c = search needs
@@ -41,10 +41,10 @@ word-start-spec =
     (tie.spec
     Inv-loop
     μ-loop
-    skip-spaces-requires
+    skip-requires
     loop-holds
-    skip-word-requires
-    skip-spaces-requires-2
+    skip-requires-2
+    skip-requires-3
     add-k
     loop-less
     loop-again

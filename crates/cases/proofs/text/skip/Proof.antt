@@ -1,15 +1,15 @@
--- `skip_spaces` is safe and ends.
+-- `skip` is safe and ends.
 use Prim.Native.Nat.{_≤_, _-_}
 use lib.ListN.{length}
 use borrow.Author.Needs.{needs}
-use Rattle.cases.proofs.text.skip_spaces.Statement.{statement}
-use Rattle.cases.proofs.text.skip_spaces.Tie as tie
+use Rattle.cases.proofs.text.skip.Statement.{statement}
+use Rattle.cases.proofs.text.skip.Tie as tie
 
 abbrev Inv-loop : tie.InvT-loop
-Inv-loop text from at₀ at = (from ≤ at) × (at ≤ length text)
+Inv-loop text from spaces at₀ at = (from ≤ at) × (at ≤ length text)
 
 abbrev μ-loop : tie.MeasureT-loop
-μ-loop text from at₀ at = length text - at
+μ-loop text from spaces at₀ at = length text - at
 
 loop-holds : tie.Need-loop-holds Inv-loop μ-loop
 loop-holds c = search needs
@@ -35,8 +35,8 @@ loop-again c = search needs
 returns-2 : tie.Need-returns-2 Inv-loop μ-loop
 returns-2 c = search needs
 
-pub skip-spaces-spec : {M : Type 1} → statement M
-skip-spaces-spec =
+pub skip-spec : {M : Type 1} → statement M
+skip-spec =
     tie.close
     (tie.spec
     Inv-loop
