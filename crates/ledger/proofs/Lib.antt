@@ -1,5 +1,6 @@
 -- Laws. `Lines`, `Maps` and `Joins` serve the functions here; the others are for use above too.
 pub mod Lines
+pub mod Rows
 pub mod Maps
 pub mod Answers
 pub mod Checks
@@ -13,5 +14,6 @@ pub mod Kept
 pub mod Compared
 pub mod Fresh
 pub mod Added
+pub mod Cells
 pub mod Meeting
 pub mod Ranges

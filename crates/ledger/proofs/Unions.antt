@@ -5,16 +5,16 @@ use native.Mathlib.Nat.{le-refl, max-comm, le-max-left, le-max-right}
 use native.Mathlib.Omega.{arith}
 use mathlib.Core.Path.{_≡_, refl, sym, ap, ap₂, _∙_}
 use mathlib.Core.Logic.{⊎-elim}
-use mathlib.Core.Bool.{true}
+use mathlib.Core.Bool.{true, false}
 use mathlib.Core.List.{List}
-use borrow.Author.Tests.{lt-ltb, le-ltb, eq-eqb, ne-eqb, eqb-true, leb-true}
+use borrow.Author.Tests.{lt-ltb, le-ltb, eq-eqb, ne-eqb, eqb-true, leb-true, not-false}
 use lib.Dec.{eqb}
 use lib.ListN.{getD, length}
 use Rattle.quorums.proofs.Tests.{le-or-lt, eqb-comm}
 use Rattle.quorums.proofs.Sums.{all-each, each-all, all-same}
 use Rattle.ledger.specs.declared.ledger.Ledger.{Ledger}
 use Rattle.ledger.specs.Ledgers.{countOf, Typed, accepted}
-use Rattle.ledger.specs.Joins.{agree, later, agreeAt, laterAt, largerAt, joins, joined, joinAnswer}
+use Rattle.ledger.specs.Joins.{agree, later, agreeAt, laterAt, largerAt, joins, joined, joinAnswer, hasAt, lacks}
 use Rattle.ledger.proofs.Tables.{table-length, table-at, table-same, is-table}
 
 -- ---- what stands in a union
@@ -124,6 +124,15 @@ joined-self a t =
     (sym (is-table 256 (laterAt a a) (a .cells) (t .cells-length) (λ k h. sym (later-first _ _ _ _ (omega arith)))))
 
 -- joining commutes
+-- where b has nothing more, a is the union
+pub joined-has : (a b : Ledger) → Typed a → lacks a b ≡ false → joined a b ≡ a
+unfolding joined lacks
+joined-has a b t e =
+    let has = all-each 16 (hasAt a b) (not-false _ e) in
+    same-ledger _ _
+    (sym (is-table 16 (largerAt a b) (a .counts) (t .counts-length) (λ i l. omega (arith, leb-true (countOf b i) (countOf a i) (has i l)))))
+    (sym (is-table 256 (laterAt a b) (a .cells) (t .cells-length) (λ k l. sym (later-first _ _ _ _ (leb-true (countOf b (k / 16)) (countOf a (k / 16)) (has (k / 16) (omega arith)))))))
+
 pub joins-comm : (a b : Ledger) → joins a b ≡ joins b a
 unfolding joins
 joins-comm a b = all-same 256 (agreeAt a b) (agreeAt b a) (λ k h. agree-comm _ _ _ _)

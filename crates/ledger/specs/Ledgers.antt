@@ -1,6 +1,7 @@
 -- The ledger (paper 01: sheet): a count for each giver and what each gave each taker, in one flat array.
 use Prim.Native.Nat.{ℕ, _+_, _*_, _≤_}
 use mathlib.Core.Path.{_≡_}
+use mathlib.Core.List.{List}
 use lib.ListN.{length, getD, replicate}
 use Rattle.quorums.specs.Sum.{sum}
 use Rattle.quorums.specs.Accounts.{Accounts}
@@ -15,6 +16,10 @@ use Rattle.ledger.specs.declared.ledger.Changed.{Changed}
 abbrev pub freshLedger : Ledger
 freshLedger = record { counts = replicate 16 0; cells = replicate 256 0 }
 
+-- a ledger of its counts and cells
+abbrev pub ledgerOf : List ℕ → List ℕ → Ledger
+ledgerOf counts cells = record { counts = counts; cells = cells }
+
 -- how many transfers giver i made
 abbrev pub countOf : Ledger → ℕ → ℕ
 countOf l i = getD (l .counts) i 0
@@ -24,8 +29,8 @@ abbrev pub cellOf : Ledger → ℕ → ℕ → ℕ
 cellOf l i j = getD (l .cells) (i * 16 + j) 0
 
 -- the sum of n cells from one on, a step apart
-unfoldable pub lineOf : Ledger → ℕ → ℕ → ℕ → ℕ
-lineOf l from step n = sum n (λ k. getD (l .cells) (from + k * step) 0)
+unfoldable pub lineOf : List ℕ → ℕ → ℕ → ℕ → ℕ
+lineOf cells from step n = sum n (λ k. getD cells (from + k * step) 0)
 
 -- what server i gave, and what it received
 unfoldable pub givenOf : Ledger → ℕ → ℕ

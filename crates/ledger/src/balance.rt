@@ -1,14 +1,16 @@
 // Both sides of a weight, as plain numbers: signed numbers are made only where an answer is one.
 use super::ledger::Ledger;
+use super::ledger::line;
 use super::map::names;
 use config::Config;
 use config::Number;
 ghost use mathlib.Core.Path.{_≡_};
 ghost use mathlib.Core.Bool.{true, cond};
 ghost use Prim.Native.Nat.{_<_};
+ghost use lib.ListN.{length};
 ghost use Rattle.quorums.specs.Difference.{difference as differenceOf};
 ghost use Rattle.config.specs.Cluster.{serverOf, validOf};
-ghost use Rattle.ledger.specs.Balances.{Sides};
+ghost use Rattle.ledger.specs.Balances.{Sides, heldIn, givenIn};
 ghost use Rattle.ledger.specs.Ledgers.{accountsOf, givenOf};
 ghost use Rattle.ledger.specs.Maps.{named};
 ghost use Rattle.quorums.specs.Accounts.{held};
@@ -21,51 +23,52 @@ pub(crate) struct Balance {
 }
 
 impl Ledger {
-    // The balance of one server.
-    pub(crate) fn balance(self, config: Config, server: u64) -> Balance
-        requires { ⌜ serverOf config server ≡ true ⌝ }
-        ensures { λ r. ⌜ Sides (held (accountsOf config self) server) (givenOf self server) 68719492720 r ⌝ }
-    {
-        let i = server as usize;
-        let Number::Value(start) = config.start(server) else {
-            return Balance { held: 0, given: 0 };
-        };
-        let received = self.line(i, 16);
-        let given = self.line(i * 16, 1);
-        Balance {
-            held: start + received,
-            given,
-        }
-    }
-
-    // The same, or nothing where the map does not name the server.
-    fn balance_named(self, config: Config, map: u16, server: u64) -> Balance
-        requires { ⌜ serverOf config server ≡ true ⌝ }
-        ensures { λ r. ⌜ Sides (cond (named map server) (held (accountsOf config self) server) 0) (cond (named map server) (givenOf self server) 0) 68719492720 r ⌝ }
-    {
-        if names(map, server) {
-            return self.balance(config, server);
-        }
-        Balance { held: 0, given: 0 }
-    }
-
     // The balance of the servers that a map names together.
     pub(crate) fn balance_in(self, config: Config, map: u16) -> Balance
         requires { ⌜ validOf config ≡ true ⌝ }
         ensures { λ r. ⌜ Sides (sumIn (config .n) (named map) (held (accountsOf config self))) (sumIn (config .n) (named map) (givenOf self)) 1099511883520 r ⌝ }
     {
+        let cells = self.cells;
         let n = config.n;
         let mut held: u64 = 0;
         let mut given: u64 = 0;
         let mut i: u64 = 0;
         while i < n {
-            let b = self.balance_named(config, map, i);
+            let b = balance_named(&cells, config, map, i);
             held += b.held;
             given += b.given;
             i += 1;
         }
         Balance { held, given }
     }
+}
+
+// The balance of one server, by the 256 cells of a ledger. They are lent, since a copy of a ledger takes longer than the sums.
+pub(crate) fn balance_of(cells: &[u32], config: Config, server: u64) -> Balance
+    requires { ⌜ (length (now cells) ≡ 256) × (serverOf config server ≡ true) ⌝ }
+    ensures { λ r. ⌜ Sides (heldIn config (now (cells .entry)) server) (givenIn (now (cells .entry)) server) 68719492720 r ⌝ }
+{
+    let i = server as usize;
+    let Number::Value(start) = config.start(server) else {
+        return Balance { held: 0, given: 0 };
+    };
+    let received = line(cells, i, 16);
+    let given = line(cells, i * 16, 1);
+    Balance {
+        held: start + received,
+        given,
+    }
+}
+
+// The same, or nothing where the map does not name the server.
+fn balance_named(cells: &[u32], config: Config, map: u16, server: u64) -> Balance
+    requires { ⌜ (length (now cells) ≡ 256) × (serverOf config server ≡ true) ⌝ }
+    ensures { λ r. ⌜ Sides (cond (named map server) (heldIn config (now (cells .entry)) server) 0) (cond (named map server) (givenIn (now (cells .entry)) server) 0) 68719492720 r ⌝ }
+{
+    if names(map, server) {
+        return balance_of(cells, config, server);
+    }
+    Balance { held: 0, given: 0 }
 }
 
 // a less b, as a signed number.

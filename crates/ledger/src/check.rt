@@ -1,5 +1,7 @@
 // Whether a ledger is one that a party may hold or send: every count and cell within the paper's ranges, and every weight above the floor.
+use super::balance::balance_of;
 use super::ledger::Ledger;
+use super::ledger::line;
 use super::ledger::wide16;
 use config::Config;
 use config::MOST_WEIGHT;
@@ -8,9 +10,11 @@ use config::Refusal;
 use config::Verdict;
 ghost use mathlib.Core.Path.{_≡_};
 ghost use mathlib.Core.Bool.{true};
+ghost use Prim.Native.Nat.{_<_};
+ghost use lib.ListN.{length};
 ghost use Rattle.quorums.specs.Sum.{all};
 ghost use Rattle.config.specs.Cluster.{validOf, leastOf};
-ghost use Rattle.ledger.specs.Checks.{mayHold, cellFits, totalFits, rowFits, aboveFloor, boundsAnswer, floorAnswer, checkAnswer};
+ghost use Rattle.ledger.specs.Checks.{cellFits, serverFits, totalFits, rowFits, aboveFloor, boundsAnswer, floorAnswer, checkAnswer};
 
 impl Ledger {
     // The first fault of the ledger: 1 for the cluster, 4 for a count or cell out of range, 5 for a weight not above the floor.
@@ -56,12 +60,13 @@ impl Ledger {
     fn cells_fit(self, n: u64) -> bool
         ensures { λ r. ⌜ r ≡ all 256 (cellFits n self) ⌝ }
     {
-        let mut k: usize = 0;
-        while k < 256 {
-            if !may_hold(n, k as u64, self.cells[k]) {
+        let cells = self.cells;
+        let mut i: usize = 0;
+        while i < 16 {
+            if !server_fits(&cells, n, i) {
                 return false;
             }
-            k += 1;
+            i += 1;
         }
         true
     }
@@ -70,9 +75,11 @@ impl Ledger {
     fn rows_fit(self) -> bool
         ensures { λ r. ⌜ r ≡ all 16 (rowFits self) ⌝ }
     {
+        let counts = self.counts;
+        let cells = self.cells;
         let mut i: usize = 0;
         while i < 16 {
-            if !total_fits(self.counts[i], self.line(i * 16, 1)) {
+            if !total_fits(counts[i], line(&cells, i * 16, 1)) {
                 return false;
             }
             i += 1;
@@ -85,10 +92,11 @@ impl Ledger {
         requires { ⌜ (validOf config ≡ true) × (least ≡ leastOf config) ⌝ }
         ensures { λ r. ⌜ r ≡ aboveFloor config self ⌝ }
     {
+        let cells = self.cells;
         let n = config.n;
         let mut i: u64 = 0;
         while i < n {
-            let b = self.balance(config, i);
+            let b = balance_of(&cells, config, i);
             if b.held < b.given + least {
                 return false;
             }
@@ -98,22 +106,22 @@ impl Ledger {
     }
 }
 
-// Whether a cell may hold x: the giver and the taker are two servers of the cluster, or x is 0.
-fn may_hold(n: u64, k: u64, x: u32) -> bool
-    ensures { λ r. ⌜ r ≡ mayHold n k x ⌝ }
+// Whether the cells of one server's row and column may hold what they hold: it gave itself nothing, and where there is no such server, it gave and
+// received nothing.
+fn server_fits(cells: &[u32], n: u64, i: usize) -> bool
+    requires { ⌜ (length (now cells) ≡ 256) × (i < 16) ⌝ }
+    ensures { λ r. ⌜ r ≡ serverFits n (now (cells .entry)) i ⌝ }
 {
-    if x == 0 {
+    if cells[i * 17] != 0 {
+        return false;
+    }
+    if (i as u64) < n {
         return true;
     }
-    let giver = k / 16;
-    let taker = k % 16;
-    if n <= giver {
+    if line(cells, i * 16, 1) != 0 {
         return false;
     }
-    if n <= taker {
-        return false;
-    }
-    giver != taker
+    line(cells, i, 16) == 0
 }
 
 // Whether a row's total lies from its count to 16,000 times its count.

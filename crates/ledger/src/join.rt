@@ -5,24 +5,42 @@ use config::Config;
 use config::Refusal;
 use config::Verdict;
 ghost use mathlib.Core.Path.{_≡_};
-ghost use Prim.Native.Nat.{max};
+ghost use mathlib.Core.Bool.{cond};
+ghost use mathlib.Core.List.{[]};
+ghost use Prim.Native.Nat.{_≤_, max};
+ghost use lib.ListN.{length, getD};
 ghost use Rattle.quorums.specs.Sum.{all};
 ghost use Rattle.ledger.specs.Tables.{table};
+ghost use Rattle.ledger.specs.Ledgers.{ledgerOf};
 ghost use Rattle.ledger.specs.Joins.{agree as agreeOf, joins as joinsOf, later as laterOf, laterAt, largerAt, joinAnswer, mergeAnswer, sameCountAt, sameCellAt, equal as equalOf, lacks as lacksOf};
 
 impl Ledger {
-    // Both ledgers together: of each giver the row with the larger count. 6, and this ledger as it was, where rows do not agree.
+    // Both ledgers together: of each giver the row with the larger count, which is this ledger where the other has nothing more. 6, and this ledger as it
+    // was, where rows do not agree.
     pub fn join(self, other: Ledger) -> Changed
         ensures { λ r. ⌜ r ≡ joinAnswer self other ⌝ }
     {
-        if !self.joins(other) {
+        let counts = self.counts;
+        let cells = self.cells;
+        let other_counts = other.counts;
+        let other_cells = other.cells;
+        if !joins(&counts, &cells, &other_counts, &other_cells) {
             return self.refused(Refusal::Clash);
         }
-        let counts = self.larger_counts(other);
-        let cells = self.later_cells(other);
+        if !self.lacks(other) {
+            return Changed {
+                verdict: Verdict::Accepted,
+                ledger: self,
+            };
+        }
+        let larger = larger_counts(&counts, &other_counts);
+        let later = later_cells(&counts, &cells, &other_counts, &other_cells);
         Changed {
             verdict: Verdict::Accepted,
-            ledger: Ledger { counts, cells },
+            ledger: Ledger {
+                counts: larger,
+                cells: later,
+            },
         }
     }
 
@@ -46,58 +64,6 @@ impl Ledger {
             verdict: Verdict::Accepted,
             ledger,
         }
-    }
-
-    // Whether rows with equal counts are equal, and no cell of a later row is smaller.
-    fn joins(self, other: Ledger) -> bool
-        ensures { λ r. ⌜ r ≡ joinsOf self other ⌝ }
-    {
-        let mut k: usize = 0;
-        while k < 256 {
-            let i = k / 16;
-            if !agree(
-                self.counts[i],
-                other.counts[i],
-                self.cells[k],
-                other.cells[k],
-            ) {
-                return false;
-            }
-            k += 1;
-        }
-        true
-    }
-
-    // Of each giver the larger count.
-    fn larger_counts(self, other: Ledger) -> [u16; 16]
-        ensures { λ r. ⌜ r ≡ table 16 (largerAt self other) ⌝ }
-    {
-        let mut counts = [0u16; 16];
-        let mut i: usize = 0;
-        while i < 16 {
-            counts[i] = larger(self.counts[i], other.counts[i]);
-            i += 1;
-        }
-        counts
-    }
-
-    // Of each giver the cells of the row with the larger count.
-    fn later_cells(self, other: Ledger) -> [u32; 256]
-        ensures { λ r. ⌜ r ≡ table 256 (laterAt self other) ⌝ }
-    {
-        let mut cells = [0u32; 256];
-        let mut k: usize = 0;
-        while k < 256 {
-            let i = k / 16;
-            cells[k] = later(
-                self.counts[i],
-                other.counts[i],
-                self.cells[k],
-                other.cells[k],
-            );
-            k += 1;
-        }
-        cells
     }
 
     // Whether both ledgers are the same.
@@ -140,15 +106,93 @@ impl Ledger {
     pub fn lacks(self, other: Ledger) -> bool
         ensures { λ r. ⌜ r ≡ lacksOf self other ⌝ }
     {
+        let counts = self.counts;
+        let other_counts = other.counts;
         let mut i: usize = 0;
         while i < 16 {
-            if self.counts[i] < other.counts[i] {
+            if counts[i] < other_counts[i] {
                 return true;
             }
             i += 1;
         }
         false
     }
+}
+
+// Whether rows with equal counts are equal, and no cell of a later row is smaller. Ledgers are lent as their counts and cells, since a copy of one takes
+// longer than a row.
+fn joins(counts: &[u16], cells: &[u32], other_counts: &[u16], other_cells: &[u32]) -> bool
+    requires { ⌜ (length (now counts) ≡ 16) × (length (now cells) ≡ 256) × (length (now «other_counts») ≡ 16) × (length (now «other_cells») ≡ 256) ⌝ }
+    ensures { λ r. ⌜ r ≡ joinsOf (ledgerOf (now (counts .entry)) (now (cells .entry))) (ledgerOf (now («other_counts» .entry)) (now («other_cells» .entry))) ⌝ }
+{
+    let mut i: usize = 0;
+    while i < 16 {
+        let a = i * 16;
+        let e = a + 16;
+        if !row_joins(counts[i], other_counts[i], &cells[a..e], &other_cells[a..e]) {
+            return false;
+        }
+        i += 1;
+    }
+    true
+}
+
+// The same of two rows. It looks at all cells, whatever it finds, so that a compiler can compare several at once.
+fn row_joins(count: u16, other_count: u16, row: &[u32], other_row: &[u32]) -> bool
+    requires { ⌜ (length (now row) ≡ 16) × (length (now «other_row») ≡ 16) ⌝ }
+    ensures { λ r. ⌜ r ≡ all 16 (λ j. agreeOf count «other_count» (getD (now (row .entry)) j 0) (getD (now («other_row» .entry)) j 0)) ⌝ }
+{
+    let mut clashes: u32 = 0;
+    let mut j: usize = 0;
+    while j < 16 {
+        clashes += clash(count, other_count, row[j], other_row[j]);
+        j += 1;
+    }
+    clashes == 0
+}
+
+// 1 for two cells that may not stand at one place in rows with these counts, else 0.
+fn clash(count: u16, other_count: u16, cell: u32, other_cell: u32) -> u32
+    ensures { λ r. ⌜ (r ≡ cond (agreeOf count «other_count» cell «other_cell») 0 1) × (r ≤ 1) ⌝ }
+{
+    if agree(count, other_count, cell, other_cell) {
+        return 0;
+    }
+    1
+}
+
+// Of each giver the larger count.
+fn larger_counts(counts: &[u16], other_counts: &[u16]) -> [u16; 16]
+    requires { ⌜ (length (now counts) ≡ 16) × (length (now «other_counts») ≡ 16) ⌝ }
+    ensures { λ r. ⌜ r ≡ table 16 (largerAt (ledgerOf (now (counts .entry)) []) (ledgerOf (now («other_counts» .entry)) [])) ⌝ }
+{
+    let mut larger_of = [0u16; 16];
+    let mut i: usize = 0;
+    while i < 16 {
+        larger_of[i] = larger(counts[i], other_counts[i]);
+        i += 1;
+    }
+    larger_of
+}
+
+// Of each giver the cells of the row with the larger count.
+fn later_cells(
+    counts: &[u16],
+    cells: &[u32],
+    other_counts: &[u16],
+    other_cells: &[u32],
+) -> [u32; 256]
+    requires { ⌜ (length (now counts) ≡ 16) × (length (now cells) ≡ 256) × (length (now «other_counts») ≡ 16) × (length (now «other_cells») ≡ 256) ⌝ }
+    ensures { λ r. ⌜ r ≡ table 256 (laterAt (ledgerOf (now (counts .entry)) (now (cells .entry))) (ledgerOf (now («other_counts» .entry)) (now («other_cells» .entry)))) ⌝ }
+{
+    let mut later_of = [0u32; 256];
+    let mut k: usize = 0;
+    while k < 256 {
+        let i = k / 16;
+        later_of[k] = later(counts[i], other_counts[i], cells[k], other_cells[k]);
+        k += 1;
+    }
+    later_of
 }
 
 // Whether two cells at one place may stand in rows with these counts.

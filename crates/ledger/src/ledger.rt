@@ -3,7 +3,7 @@ use config::Refusal;
 use config::Verdict;
 ghost use mathlib.Core.Path.{_≡_};
 ghost use Prim.Native.Nat.{ℕ, _+_, _*_, _<_, _≤_};
-ghost use lib.ListN.{getD};
+ghost use lib.ListN.{length, getD};
 ghost use Rattle.ledger.specs.Ledgers.{freshLedger, lineOf, refused as refusedOf};
 
 // The transfers known to a party (paper 01: sheet). counts[i] is the number of transfers that server i made, and cells[16 i + j] what it gave server j in all.
@@ -39,21 +39,21 @@ impl Ledger {
             ledger: self,
         }
     }
+}
 
-    // The sum of the 16 cells from `from` on, `step` apart: a row (step 1) or a column (step 16).
-    pub(crate) fn line(self, from: usize, step: usize) -> u64
-        requires { ⌜ (from + 15 * step < 256) ⌝ }
-        ensures { λ r. ⌜ (r ≡ lineOf self from step 16) × (r ≤ 68719476720) ⌝ }
-    {
-        let mut total: u64 = 0;
-        let mut k: usize = 0;
-        while k < 16 {
-            let at = from + k * step;
-            total += wide(self.cells[at]);
-            k += 1;
-        }
-        total
+// The sum of 16 of the 256 cells from `from` on, `step` apart: a row (step 1) or a column (step 16).
+pub(crate) fn line(cells: &[u32], from: usize, step: usize) -> u64
+    requires { ⌜ (length (now cells) ≡ 256) × (from + 15 * step < 256) ⌝ }
+    ensures { λ r. ⌜ (r ≡ lineOf (now (cells .entry)) from step 16) × (r ≤ 68719476720) ⌝ }
+{
+    let mut total: u64 = 0;
+    let mut k: usize = 0;
+    while k < 16 {
+        let at = from + k * step;
+        total += wide(cells[at]);
+        k += 1;
     }
+    total
 }
 
 // A number at a wider type, with its bound.

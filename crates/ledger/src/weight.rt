@@ -1,6 +1,8 @@
 // Weights, the margin of a map, and quorums (paper 01, "Sheets").
+use super::balance::balance_of;
 use super::balance::difference;
 use super::ledger::Ledger;
+use super::ledger::line;
 use super::map::within;
 use config::Config;
 use config::Decision;
@@ -18,8 +20,9 @@ impl Ledger {
         if !config.has(server) {
             return Number::Refused(Refusal::BadHouse);
         }
+        let cells = self.cells;
         let i = server as usize;
-        Number::Value(self.line(i * 16, 1))
+        Number::Value(line(&cells, i * 16, 1))
     }
 
     // What a server received in all.
@@ -29,8 +32,9 @@ impl Ledger {
         if !config.has(server) {
             return Number::Refused(Refusal::BadHouse);
         }
+        let cells = self.cells;
         let i = server as usize;
-        Number::Value(self.line(i, 16))
+        Number::Value(line(&cells, i, 16))
     }
 
     // The weight of a server: start + received − given. It is negative where a ledger says that more was given than was there.
@@ -40,7 +44,8 @@ impl Ledger {
         if !config.has(server) {
             return Signed::Refused(Refusal::BadHouse);
         }
-        let b = self.balance(config, server);
+        let cells = self.cells;
+        let b = balance_of(&cells, config, server);
         Signed::Value(difference(b.held, b.given))
     }
 

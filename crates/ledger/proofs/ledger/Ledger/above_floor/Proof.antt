@@ -11,40 +11,48 @@ use Rattle.quorums.proofs.Sums.{all-none, all-next, all-fails}
 use Rattle.config.specs.Cluster.{aboveOf}
 use Rattle.config.proofs.Clusters.{valid-server, least-small, above-least}
 use Rattle.ledger.specs.Checks.{aboveFloor, serverAbove}
+use Rattle.ledger.proofs.Lines.{inCells, above-cells, sides-of}
 use Rattle.ledger.proofs.Answers.{weight-balance}
 use Rattle.ledger.proofs.ledger.Ledger.above_floor.Statement.{statement}
 use Rattle.ledger.proofs.ledger.Ledger.above_floor.Tie as tie
 
 abbrev Inv-loop : tie.InvT-loop
-Inv-loop self config least n i₀ i = (i ≤ config .n) × (all i (serverAbove config self) ≡ true)
+Inv-loop config least cells n i₀ i = (i ≤ config .n) × (all i (serverAbove config (inCells cells)) ≡ true)
 
 abbrev μ-loop : tie.MeasureT-loop
-μ-loop self config least n i₀ i = config .n - i
+μ-loop config least cells n i₀ i = config .n - i
 
 loop-holds : tie.Need-loop-holds Inv-loop μ-loop
 loop-holds c = (omega arith, all-none _)
 
-balance-requires : tie.Need-balance-requires Inv-loop μ-loop
-balance-requires c κs = valid-server _ _ (c .before .before .pre .0) (c .loop-test .taken)
+slice-aggregate-balance-of : tie.Need-slice-aggregate-balance-of Inv-loop μ-loop
+slice-aggregate-balance-of c = search needs
+
+balance-of-requires : tie.Need-balance-of-requires Inv-loop μ-loop
+balance-of-requires c κs =
+    (search needs, valid-server _ _ (c .before .before .before .before .pre .0) (c .before .loop-test .taken))
 
 add-if1 : tie.Need-add-if1 Inv-loop μ-loop
 add-if1 c =
-    let start = c .before .before .before .before in
-    omega (arith, c .before .balance .ensures .given-small, start .pre .1, least-small _ (start .pre .0))
+    let start = c .before .before .before .before .before .before in
+    omega (arith, c .before .balance-of .ensures .given-small, start .pre .1, least-small _ (start .pre .0))
 
 above : (c : tie.After-struct-known Inv-loop μ-loop) →
-    serverAbove (c .before .before .before .before .args .config) (c .before .before .before .before .args .self) (c .before .before .before .loop .i)
-    ≡ leb (c .before .balance .result .given + c .before .before .before .before .args .least) (c .before .balance .result .held)
+    serverAbove (c .before .before .before .before .before .before .args .config) (inCells (c .before .before .before .before .before .before .args .self .cells)) (c .before .before .before .before .loop .i)
+    ≡ leb (c .before .balance-of .result .given + c .before .before .before .before .before .before .args .least) (c .before .balance-of .result .held)
 above c =
-    let start = c .before .before .before .before in
-    let b = c .before .balance in
-    ap (aboveOf (start .args .config)) (sym (weight-balance _ _ _ _ _ (b .ensures)))
+    let start = c .before .before .before .before .before .before in
+    let b = c .before .balance-of in
+    let sides = sides-of (start .args .config) (inCells (start .args .self .cells)) _ _ _ (b .ensures) in
+    ap (aboveOf (start .args .config)) (sym (weight-balance _ _ _ _ _ sides))
     ∙ above-least (start .args .config) (b .result .held) (b .result .given) (start .pre .0)
     ∙ ap (λ w. leb (b .result .given + w) (b .result .held)) (sym (start .pre .1))
 
 returns : tie.Need-returns Inv-loop μ-loop
 unfolding aboveFloor
-returns c = sym (all-fails _ (serverAbove (c .before .before .before .before .before .before .args .config) (c .before .before .before .before .before .before .args .self)) _ (c .before .before .before .before .loop-test .taken) (above (c .before .before) ∙ lt-leb _ _ (c .if1 .taken)))
+returns c =
+    let a = c .before .before .before .before .before .before .before .before .args in
+    sym (sym (above-cells (a .config) (a .self)) ∙ all-fails _ (serverAbove (a .config) (inCells (a .self .cells))) _ (c .before .before .before .before .before .loop-test .taken) (above (c .before .before) ∙ lt-leb _ _ (c .if1 .taken)))
 
 add-i : tie.Need-add-i Inv-loop μ-loop
 add-i c = search needs
@@ -53,13 +61,16 @@ loop-less : tie.Need-loop-less Inv-loop μ-loop
 loop-less c = search needs
 
 loop-again : tie.Need-loop-again Inv-loop μ-loop
-loop-again c = (omega arith, all-next _ (serverAbove (c .before .before .before .before .before .before .args .config) (c .before .before .before .before .before .before .args .self)) (c .before .before .before .before .before .loop .inv .1) (above (c .before .before) ∙ le-leb _ _ (c .if1 .left)))
+loop-again c =
+    let a = c .before .before .before .before .before .before .before .before .args in
+    (omega arith, all-next _ (serverAbove (a .config) (inCells (a .self .cells))) (c .before .before .before .before .before .before .loop .inv .1) (above (c .before .before) ∙ le-leb _ _ (c .if1 .left)))
 
 returns-2 : tie.Need-returns-2 Inv-loop μ-loop
 unfolding aboveFloor
 returns-2 c =
-    let e : c .before .loop .i ≡ c .before .before .args .config .n = omega arith in
-    sym (rw e at (c .before .loop .inv .1))
+    let a = c .before .before .before .args in
+    let e : c .before .loop .i ≡ a .config .n = omega arith in
+    sym (sym (above-cells (a .config) (a .self)) ∙ rw e at (c .before .loop .inv .1))
 
 pub above-floor-spec : {M : Type 1} → statement M
 above-floor-spec =
@@ -68,7 +79,8 @@ above-floor-spec =
     Inv-loop
     μ-loop
     loop-holds
-    balance-requires
+    slice-aggregate-balance-of
+    balance-of-requires
     add-if1
     returns
     add-i

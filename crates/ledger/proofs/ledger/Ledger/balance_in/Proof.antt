@@ -2,6 +2,7 @@
 use Prim.Native.Nat.{_+_, _*_, _-_, _≤_}
 use native.Mathlib.Omega.{arith}
 use mathlib.Core.Path.{_≡_, sym, ap, ap₂, _∙_}
+use mathlib.Core.Bool.{cond}
 use borrow.Author.Needs.{needs}
 use Rattle.quorums.specs.Sum.{sumIn}
 use Rattle.quorums.specs.Accounts as A
@@ -9,31 +10,35 @@ use Rattle.quorums.proofs.Sums.{sumIn-none, sumIn-next}
 use Rattle.config.proofs.Clusters.{valid-bounds, valid-server}
 use Rattle.ledger.specs.Ledgers.{accountsOf, givenOf}
 use Rattle.ledger.specs.Maps.{named}
+use Rattle.ledger.proofs.Lines.{inCells, accounts-cells, given-cells, given-line, held-in}
 use Rattle.ledger.proofs.ledger.Ledger.balance_in.Statement.{statement}
 use Rattle.ledger.proofs.ledger.Ledger.balance_in.Tie as tie
 
 abbrev Inv-loop : tie.InvT-loop
-Inv-loop self config map n held₀ given₀ i₀ held given i =
+Inv-loop config map cells n held₀ given₀ i₀ held given i =
     (i ≤ config .n)
-    × (held ≡ sumIn i (named map) (A.held (accountsOf config self)))
-    × (given ≡ sumIn i (named map) (givenOf self))
+    × (held ≡ sumIn i (named map) (A.held (accountsOf config (inCells cells))))
+    × (given ≡ sumIn i (named map) (givenOf (inCells cells)))
     × (held ≤ i * 68719492720)
     × (given ≤ i * 68719492720)
 
 abbrev μ-loop : tie.MeasureT-loop
-μ-loop self config map n held₀ given₀ i₀ held given i = config .n - i
+μ-loop config map cells n held₀ given₀ i₀ held given i = config .n - i
 
 loop-holds : tie.Need-loop-holds Inv-loop μ-loop
 loop-holds c = (omega arith, sym (sumIn-none _ _), sym (sumIn-none _ _), omega arith, omega arith)
 
+slice-aggregate-balance-named : tie.Need-slice-aggregate-balance-named Inv-loop μ-loop
+slice-aggregate-balance-named c = search needs
+
 balance-named-requires : tie.Need-balance-named-requires Inv-loop μ-loop
-balance-named-requires c κs = valid-server _ _ (c .before .before .pre) (c .loop-test .taken)
+balance-named-requires c κs = (search needs, valid-server _ _ (c .before .before .before .before .pre) (c .before .loop-test .taken))
 
 add-held : tie.Need-add-held Inv-loop μ-loop
-add-held c = omega (arith, c .before .balance-named .ensures .held-small, valid-bounds _ (c .before .before .before .before .pre) .most)
+add-held c = omega (arith, c .before .balance-named .ensures .held-small, valid-bounds _ (c .before .before .before .before .before .before .pre) .most)
 
 add-given : tie.Need-add-given Inv-loop μ-loop
-add-given c = omega (arith, c .before .before .balance-named .ensures .given-small, valid-bounds _ (c .before .before .before .before .before .pre) .most)
+add-given c = omega (arith, c .before .before .balance-named .ensures .given-small, valid-bounds _ (c .before .before .before .before .before .before .before .pre) .most)
 
 add-i : tie.Need-add-i Inv-loop μ-loop
 add-i c = search needs
@@ -43,23 +48,25 @@ loop-less c = search needs
 
 loop-again : tie.Need-loop-again Inv-loop μ-loop
 loop-again c =
-    let turn = c .before .before .before .before in
-    let more = c .before .before .balance-named .ensures in (
+    let turn = c .before .before .before .before .before in
+    let a = turn .before .before .args in
+    let more = c .before .before .balance-named .ensures in
+    let l = inCells (a .self .cells) in (
       omega arith,
-      ap₂ _+_ (turn .loop .inv .1) (more .held-is) ∙ sym (sumIn-next _ _ _),
-      ap₂ _+_ (turn .loop .inv .2) (more .given-is) ∙ sym (sumIn-next _ _ _),
+      ap₂ _+_ (turn .loop .inv .1) (more .held-is ∙ ap (λ x. cond (named (a .map) (turn .loop .i)) x 0) (held-in (a .config) l (turn .loop .i))) ∙ sym (sumIn-next _ _ _),
+      ap₂ _+_ (turn .loop .inv .2) (more .given-is ∙ ap (λ x. cond (named (a .map) (turn .loop .i)) x 0) (sym (given-line l (turn .loop .i)))) ∙ sym (sumIn-next _ _ _),
       omega arith,
       omega arith,
     )
 
 returns : tie.Need-returns Inv-loop μ-loop
 returns c =
-    let args = c .before .before .args in
+    let args = c .before .before .before .args in
     let e : c .before .loop .i ≡ args .config .n = omega arith in
-    let most = valid-bounds _ (c .before .before .pre) .most in
+    let most = valid-bounds _ (c .before .before .before .pre) .most in
     record {
-      held-is = c .before .loop .inv .1 ∙ ap (λ k. sumIn k (named (args .map)) (A.held (accountsOf (args .config) (args .self)))) e;
-      given-is = c .before .loop .inv .2 ∙ ap (λ k. sumIn k (named (args .map)) (givenOf (args .self))) e;
+      held-is = c .before .loop .inv .1 ∙ ap (λ k. sumIn k (named (args .map)) (A.held (accountsOf (args .config) (inCells (args .self .cells))))) e ∙ ap (λ x. sumIn (args .config .n) (named (args .map)) (A.held x)) (accounts-cells (args .config) (args .self));
+      given-is = c .before .loop .inv .2 ∙ ap (λ k. sumIn k (named (args .map)) (givenOf (inCells (args .self .cells)))) e ∙ ap (sumIn (args .config .n) (named (args .map))) (given-cells (args .self));
       held-small = omega arith;
       given-small = omega arith;
     }
@@ -71,6 +78,7 @@ balance-in-spec =
     Inv-loop
     μ-loop
     loop-holds
+    slice-aggregate-balance-named
     balance-named-requires
     add-held
     add-given

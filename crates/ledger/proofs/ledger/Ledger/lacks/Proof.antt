@@ -5,6 +5,8 @@ use mathlib.Core.Path.{_≡_, sym, ap}
 use mathlib.Core.Bool.{true, not}
 use borrow.Author.Needs.{needs}
 use borrow.Author.Tests.{le-leb, lt-leb}
+use lib.Dec.{leb}
+use lib.ListN.{getD}
 use Rattle.quorums.specs.Sum.{all}
 use Rattle.quorums.proofs.Sums.{all-none, all-next, all-fails}
 use Rattle.ledger.specs.Joins.{hasAt}
@@ -13,10 +15,10 @@ use Rattle.ledger.proofs.ledger.Ledger.lacks.Statement.{statement}
 use Rattle.ledger.proofs.ledger.Ledger.lacks.Tie as tie
 
 abbrev Inv-loop : tie.InvT-loop
-Inv-loop self other i₀ i = (i ≤ 16) × (all i (hasAt self other) ≡ true)
+Inv-loop counts other-counts i₀ i = (i ≤ 16) × (all i (λ k. leb (getD other-counts k 0) (getD counts k 0)) ≡ true)
 
 abbrev μ-loop : tie.MeasureT-loop
-μ-loop self other i₀ i = 16 - i
+μ-loop counts other-counts i₀ i = 16 - i
 
 loop-holds : tie.Need-loop-holds Inv-loop μ-loop
 loop-holds c = (omega arith, all-none _)
@@ -24,18 +26,18 @@ loop-holds c = (omega arith, all-none _)
 mul-if1 : tie.Need-mul-if1 Inv-loop μ-loop
 mul-if1 c = search needs
 
-element-copy-out-if1 : tie.Need-element-copy-out-if1 Inv-loop μ-loop
-element-copy-out-if1 c = search needs
+array-read-if1 : tie.Need-array-read-if1 Inv-loop μ-loop
+array-read-if1 c = search needs
 
 mul-if1-2 : tie.Need-mul-if1-2 Inv-loop μ-loop
 mul-if1-2 c = search needs
 
-element-copy-out-if1-2 : tie.Need-element-copy-out-if1-2 Inv-loop μ-loop
-element-copy-out-if1-2 c = search needs
+array-read-if1-2 : tie.Need-array-read-if1-2 Inv-loop μ-loop
+array-read-if1-2 c = search needs
 
 returns : tie.Need-returns Inv-loop μ-loop
 unfolding J.lacks
-returns c = sym (ap not (all-fails 16 (hasAt (c .before .before .before .before .before .args .t1) (c .before .before .before .before .before .args .t2)) _ (c .before .before .before .loop-test .taken) (lt-leb _ _ (c .if1 .taken))))
+returns c = sym (ap not (all-fails 16 (hasAt (c .before .before .before .before .before .args .self) (c .before .before .before .before .before .args .other)) _ (c .before .loop-test .taken) (lt-leb _ _ (c .if1 .taken))))
 
 add-i : tie.Need-add-i Inv-loop μ-loop
 add-i c = search needs
@@ -44,7 +46,7 @@ loop-less : tie.Need-loop-less Inv-loop μ-loop
 loop-less c = search needs
 
 loop-again : tie.Need-loop-again Inv-loop μ-loop
-loop-again c = (omega arith, all-next _ (hasAt (c .before .before .before .before .before .args .t1) (c .before .before .before .before .before .args .t2)) (c .before .before .before .before .loop .inv .1) (le-leb _ _ (c .if1 .left)))
+loop-again c = (omega arith, all-next _ (hasAt (c .before .before .before .before .before .args .self) (c .before .before .before .before .before .args .other)) (c .before .before .loop .inv .1) (le-leb _ _ (c .if1 .left)))
 
 returns-2 : tie.Need-returns-2 Inv-loop μ-loop
 unfolding J.lacks
@@ -60,9 +62,9 @@ lacks-spec =
     μ-loop
     loop-holds
     mul-if1
-    element-copy-out-if1
+    array-read-if1
     mul-if1-2
-    element-copy-out-if1-2
+    array-read-if1-2
     returns
     add-i
     loop-less

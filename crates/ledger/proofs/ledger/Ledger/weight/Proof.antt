@@ -4,6 +4,7 @@ use borrow.Author.Needs.{needs}
 use borrow.Author.Tests.{not-true, not-false}
 use Rattle.config.specs.declared.answer.Signed.{Signed}
 use Rattle.ledger.specs.Weights.{weightAnswer}
+use Rattle.ledger.proofs.Lines.{sides-of}
 use Rattle.ledger.proofs.Answers.{read-back, weight-balance}
 use Rattle.ledger.proofs.ledger.Ledger.weight.Statement.{statement}
 use Rattle.ledger.proofs.ledger.Ledger.weight.Tie as tie
@@ -15,8 +16,11 @@ returns : tie.Need-returns
 unfolding weightAnswer
 returns c = simp (sym (c .before .has .ensures) ∙ not-true _ (c .if1 .taken))
 
-balance-requires : tie.Need-balance-requires
-balance-requires c κs = sym (c .before .has .ensures) ∙ not-false _ (c .if1 .left)
+slice-aggregate-balance-of : tie.Need-slice-aggregate-balance-of
+slice-aggregate-balance-of c = search needs
+
+balance-of-requires : tie.Need-balance-of-requires
+balance-of-requires c κs = (search needs, sym (c .before .before .before .has .ensures) ∙ not-false _ (c .before .before .if1 .left))
 
 difference-requires : tie.Need-difference-requires
 difference-requires c κs = search needs
@@ -24,9 +28,9 @@ difference-requires c κs = search needs
 returns-2 : tie.Need-returns-2
 unfolding weightAnswer
 returns-2 c =
-    simp (sym (c .before .before .before .has .ensures) ∙ not-false _ (c .before .before .if1 .left))
-    (ap Signed.Value (read-back (c .difference .result) (c .difference .ok) ∙ c .difference .ensures ∙ weight-balance _ _ _ _ _ (c .before .balance .ensures)))
+    simp (sym (c .before .before .before .before .before .has .ensures) ∙ not-false _ (c .before .before .before .before .if1 .left))
+    (ap Signed.Value (read-back (c .difference .result) (c .difference .ok) ∙ c .difference .ensures ∙ weight-balance _ _ _ _ _ (sides-of _ (c .before .before .before .before .before .before .args .self) _ _ _ (c .before .balance-of .ensures))))
 
 pub weight-spec : {M : Type 1} → statement M
 weight-spec =
-    tie.close (tie.spec has-requires returns balance-requires difference-requires returns-2)
+    tie.close (tie.spec has-requires returns slice-aggregate-balance-of balance-of-requires difference-requires returns-2)

@@ -5,17 +5,17 @@ use mathlib.Core.Path.{_≡_, sym, ap, ap₂, _∙_}
 use borrow.Author.Needs.{needs}
 use Rattle.ledger.specs.Ledgers.{lineOf}
 use Rattle.ledger.proofs.Lines.{line-none, line-next, line-within}
-use Rattle.ledger.proofs.ledger.Ledger.line.Statement.{statement}
-use Rattle.ledger.proofs.ledger.Ledger.line.Tie as tie
+use Rattle.ledger.proofs.ledger.line.Statement.{statement}
+use Rattle.ledger.proofs.ledger.line.Tie as tie
 
 abbrev Inv-loop : tie.InvT-loop
-Inv-loop from step self total₀ k₀ total k = (k ≤ 16) × (total ≡ lineOf self from step k) × (total ≤ k * 4294967295)
+Inv-loop cells from step total₀ k₀ total k = (k ≤ 16) × (total ≡ lineOf cells from step k) × (total ≤ k * 4294967295)
 
 abbrev μ-loop : tie.MeasureT-loop
-μ-loop from step self total₀ k₀ total k = 16 - k
+μ-loop cells from step total₀ k₀ total k = 16 - k
 
-within : (c : tie.In-loop Inv-loop μ-loop) → c .before .before .args .from + c .before .loop .k * c .before .before .args .step < 256
-within c = line-within _ _ _ (c .before .before .pre) (c .loop-test .taken)
+within : (c : tie.In-loop Inv-loop μ-loop) → c .before .before .before .args .from + c .before .loop .k * c .before .before .before .args .step < 256
+within c = line-within _ _ _ (c .before .before .before .pre .1) (c .loop-test .taken)
 
 loop-holds : tie.Need-loop-holds Inv-loop μ-loop
 loop-holds c = (omega arith, sym (line-none _ _ _), omega arith)
@@ -29,8 +29,8 @@ add-at c = omega (arith, within c)
 mul-wide : tie.Need-mul-wide Inv-loop μ-loop
 mul-wide c = omega (arith, within c)
 
-element-copy-out-wide : tie.Need-element-copy-out-wide Inv-loop μ-loop
-element-copy-out-wide c = within c
+shared-slice-read-wide : tie.Need-shared-slice-read-wide Inv-loop μ-loop
+shared-slice-read-wide c = omega (arith, within (c .before), c .before .before .before .before .pre .0)
 
 wide-requires : tie.Need-wide-requires Inv-loop μ-loop
 wide-requires c κs = search needs
@@ -47,8 +47,8 @@ loop-less c = search needs
 loop-again : tie.Need-loop-again Inv-loop μ-loop
 loop-again c =
     let turn = c .before .before .before in
-    let start = turn .before .args in
-    (omega arith, sym (line-next (start .t1) (start .from) (start .step) (turn .loop .k) ∙ ap₂ _+_ (sym (turn .loop .inv .1)) (sym (c .wide .ensures .0))), omega arith)
+    let start = turn .before .before .args in
+    (omega arith, sym (line-next (start .cells .now) (start .from) (start .step) (turn .loop .k) ∙ ap₂ _+_ (sym (turn .loop .inv .1)) (sym (c .wide .ensures .0))), omega arith)
 
 returns : tie.Need-returns Inv-loop μ-loop
 returns c =
@@ -65,7 +65,7 @@ line-spec =
     mul-at
     add-at
     mul-wide
-    element-copy-out-wide
+    shared-slice-read-wide
     wide-requires
     add-total
     add-k

@@ -1,0 +1,60 @@
+-- Tests of all 256 cells, row by row, and tests that count what fails them.
+use Prim.Native.Nat.{ℕ, zero, suc, _+_, _-_, _*_, _/_, _%_, _<_}
+use native.Mathlib.Nat.{add-zero}
+use native.Mathlib.Omega.{arith}
+use mathlib.Core.Path.{_≡_, refl, sym, ap, subst, _∙_}
+use mathlib.Core.Bool.{Bool, true, false, cond}
+use lib.Dec.{eqb}
+use borrow.Author.Tests.{ne-eqb}
+use mathlib.Core.List.{List}
+use lib.ListN.{getD, take, drop}
+use lib.Seq.{getD-take, getD-drop}
+use Rattle.quorums.specs.Sum.{sum, all}
+use Rattle.ledger.specs.declared.ledger.Ledger.{Ledger}
+use Rattle.ledger.specs.Ledgers.{countOf}
+use Rattle.ledger.specs.Joins.{agree, agreeAt}
+use Rattle.quorums.proofs.Sums.{all-each, each-all, all-same}
+
+-- two tests of which each holds where the other does are one
+pub one-test : (a b : Bool) → (a ≡ true → b ≡ true) → (b ≡ true → a ≡ true) → a ≡ b
+one-test true b to from = sym (to refl)
+one-test false true to from = from refl
+one-test false false to from = refl
+
+pub sum-none : (f : ℕ → ℕ) → 0 ≡ sum 0 f
+unfolding sum
+sum-none f = refl
+
+one-more : (count : ℕ) (passed t : Bool) → eqb count 0 ≡ passed → eqb (count + cond t 0 1) 0 ≡ cond t passed false
+one-more count passed true e = ap (λ x. eqb x 0) (add-zero count) ∙ e
+one-more count passed false e = ne-eqb (count + 1) 0 (λ z. omega (arith, z))
+
+-- none is counted exactly where all pass
+pub none-counted : (n : ℕ) (p : ℕ → Bool) → eqb (sum n (λ k. cond (p k) 0 1)) 0 ≡ all n p
+unfolding sum all
+none-counted zero p = refl
+none-counted (suc n) p = one-more (sum n (λ k. cond (p k) 0 1)) (all n p) (p n) (none-counted n p)
+
+-- 256 cells are 16 rows of 16
+pub by-rows : (p : ℕ → Bool) → all 256 p ≡ all 16 (λ i. all 16 (λ j. p (i * 16 + j)))
+by-rows p =
+    one-test (all 256 p) (all 16 (λ i. all 16 (λ j. p (i * 16 + j))))
+    (λ h. each-all 16 _ (λ i l. each-all 16 _ (λ j m. all-each 256 p h (i * 16 + j) (omega arith))))
+    (λ h. each-all 256 p
+    (λ k l.
+    let e : k / 16 * 16 + k % 16 ≡ k = omega arith in
+    subst (λ m. p m ≡ true) e (all-each 16 (λ j. p (k / 16 * 16 + j)) (all-each 16 (λ i. all 16 (λ j. p (i * 16 + j))) h (k / 16) (omega arith)) (k % 16) (omega arith))))
+
+-- a row as a part of the cells
+pub in-row : (cells : List ℕ) (i j : ℕ) → j < 16 → getD (take (i * 16 + 16 - i * 16) (drop (i * 16) cells)) j 0 ≡ getD cells (i * 16 + j) 0
+in-row cells i j l = getD-take (i * 16 + 16 - i * 16) (drop (i * 16) cells) j 0 (omega arith) ∙ getD-drop (i * 16) cells j 0
+
+-- whether two rows agree, by the parts of the cells and by the ledgers
+pub row-agrees : (a b : Ledger) (i : ℕ)
+    → all 16 (λ j. agree (countOf a i) (countOf b i) (getD (take (i * 16 + 16 - i * 16) (drop (i * 16) (a .cells))) j 0) (getD (take (i * 16 + 16 - i * 16) (drop (i * 16) (b .cells))) j 0))
+    ≡ all 16 (λ j. agreeAt a b (i * 16 + j))
+row-agrees a b i =
+    all-same 16 _ _
+    (λ j l.
+    let e : (i * 16 + j) / 16 ≡ i = omega arith in
+    rw (in-row (a .cells) i j l, in-row (b .cells) i j l, e) refl)
