@@ -226,7 +226,8 @@ module _ (c : Config) (valid : validOf c ≡ true) (msg : List ℕ) (b : Bytes m
   scan-typed : Typed (scanOf c msg .header) (take (scanOf c msg .length) (drop (scanOf c msg .from) msg))
   scan-typed = rw (found-is, value-is) found-typed
 
-check-told : (c : Config) (msg : List ℕ) → check c msg ≡ 0 → (validOf c ≡ true) × (scanOf c msg .number ≡ 0)
+-- where the reader finds no fault, the cluster is lawful and the scan has passed
+pub check-told : (c : Config) (msg : List ℕ) → check c msg ≡ 0 → (validOf c ≡ true) × (scanOf c msg .number ≡ 0)
 unfolding check
 check-told c msg e = by-valid (validOf c) refl e
   where

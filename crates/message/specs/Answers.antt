@@ -11,6 +11,7 @@ use Rattle.config.specs.declared.answer.Verdict.{Verdict}
 use Rattle.config.specs.declared.answer.Number.{Number}
 use Rattle.message.specs.declared.header.Header.{Header}
 use Rattle.message.specs.declared.answer.Fields.{Fields}
+use Rattle.message.specs.declared.answer.Parts.{Parts}
 use Rattle.message.specs.Headers.{blankHeader, encode}
 use Rattle.message.specs.Scans.{scanOf}
 
@@ -47,6 +48,16 @@ fieldsAnswer c msg = record { verdict = verdictOf (check c msg); header = decode
 
 unfoldable pub valueAnswer : Config → List ℕ → List ℕ
 valueAnswer c msg = decode c msg .value
+
+-- The fields, and where the value lies in the message: from one place up to another, both 0 where there is a fault.
+unfoldable pub partsAnswer : Config → List ℕ → Parts
+partsAnswer c msg =
+    record {
+      verdict = verdictOf (check c msg);
+      header = decode c msg .header;
+      from = cond (eqb (check c msg) 0) (scanOf c msg .from) 0;
+      end = cond (eqb (check c msg) 0) (scanOf c msg .from + scanOf c msg .length) 0;
+    }
 
 -- ---- writing
 

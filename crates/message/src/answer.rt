@@ -11,6 +11,14 @@ pub struct Fields {
     pub header: Header,
 }
 
+// The same, and where in the message its value lies: from one place up to another, both 0 beside a refusal.
+pub struct Parts {
+    pub verdict: Verdict,
+    pub header: Header,
+    pub from: usize,
+    pub end: usize,
+}
+
 // The refusal of a number that a reader gives.
 pub fn refusal(number: u64) -> Refusal
     ensures { λ r. ⌜ r ≡ refusalOf number ⌝ }

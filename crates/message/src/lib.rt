@@ -5,6 +5,7 @@ mod header;
 mod state;
 
 pub use answer::Fields;
+pub use answer::Parts;
 pub use answer::refusal;
 pub use header::Header;
 pub use header::Tag;

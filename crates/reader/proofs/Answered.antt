@@ -7,6 +7,7 @@ use lib.ListN.{length, take, drop}
 use borrow.Author.Tests.{ne-eqb}
 use Rattle.config.specs.Cluster.{validOf}
 use Rattle.config.specs.declared.cluster.Config.{Config}
+use Rattle.config.specs.declared.answer.Verdict.{Verdict}
 use Rattle.config.specs.declared.answer.Signed.{Signed}
 use Rattle.config.specs.declared.answer.Decision.{Decision}
 use Rattle.format.specs.Bytes.{bit}
@@ -15,7 +16,8 @@ use Rattle.ledger.specs.Weights.{weightAnswer, quorumAnswer}
 use Rattle.ledger.specs.Tables.{table}
 use Rattle.message.specs.Scans.{headOf, registerOf, scanOf}
 use Rattle.message.specs.declared.state.RegisterRead.{RegisterRead}
-use Rattle.message.specs.Answers.{check, Decoded, decode, valueAnswer, refusalOf}
+use Rattle.message.specs.Headers.{blankHeader}
+use Rattle.message.specs.Answers.{check, Decoded, decode, valueAnswer, partsAnswer, verdictOf, refusalOf}
 use Rattle.message.proofs.Parts.{value-within}
 use Rattle.message.proofs.Rounds.{decoded}
 use Rattle.message.proofs.SheetBacks.{ledger-typed}
@@ -34,6 +36,24 @@ check-found c msg k v e = simp v (sym e)
 -- the ledger that a message's header has, where there was no fault
 pub ledger-found : (c : Config) (msg : List ℕ) → check c msg ≡ 0 → decode c msg .header .ledger ≡ scanOf c msg .header .ledger
 ledger-found c msg e = ap (λ (d : Decoded). d .header .ledger) (decoded c msg e)
+
+-- ---- the fields and the place of the value, where the check gives a number, and where it gives none
+
+pub parts-refused : (c : Config) (msg : List ℕ) (k : ℕ) → check c msg ≡ k → (k ≡ 0 → ⊥)
+    → record { verdict = Verdict.Refused (refusalOf k); header = blankHeader; from = 0; end = 0 } ≡ partsAnswer c msg
+unfolding partsAnswer decode verdictOf
+parts-refused c msg k e n = simp (e, ne-eqb k 0 n)
+
+pub parts-accepted : (c : Config) (msg : List ℕ) → check c msg ≡ 0
+    → record {
+      verdict = Verdict.Accepted;
+      header = scanOf c msg .header;
+      from = scanOf c msg .from;
+      end = scanOf c msg .from + scanOf c msg .length;
+    }
+    ≡ partsAnswer c msg
+unfolding partsAnswer decode verdictOf
+parts-accepted c msg e = simp e
 
 -- ---- the value, from the register
 

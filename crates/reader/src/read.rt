@@ -3,7 +3,7 @@ use super::scan::fault;
 use super::scan::scan;
 use super::sums::is_quorum;
 use super::sums::weight_of;
-use super::whole::header_in;
+use super::whole::parts_in;
 use super::whole::register_in;
 use config::Config;
 use config::Decision;
@@ -12,9 +12,10 @@ use config::Signed;
 use config::Verdict;
 use message::Fields;
 use message::Header;
+use message::Parts;
 use message::refusal;
 ghost use mathlib.Core.Path.{_≡_};
-ghost use Rattle.message.specs.Answers.{checkAnswer, fieldsAnswer, valueAnswer};
+ghost use Rattle.message.specs.Answers.{checkAnswer, fieldsAnswer, valueAnswer, partsAnswer};
 ghost use Rattle.reader.specs.Weighings.{weightIn, quorumIn};
 
 // The message check: 1 for the cluster, then the first fault of the message.
@@ -31,27 +32,39 @@ pub fn check(config: Config, msg: &[u8]) -> Verdict
     Verdict::Accepted
 }
 
-// The fields of a message but its value, or the refusal that `check` gives, beside a blank header. They are taken once the message has passed.
-pub fn fields(config: Config, msg: &[u8]) -> Fields
-    ensures { λ r. ⌜ r ≡ fieldsAnswer config (now (msg .entry)) ⌝ }
+// The fields of a message and where in it the value lies, or the refusal that `check` gives, beside a blank header and an empty part. They are taken
+// once the message has passed.
+pub fn parts(config: Config, msg: &[u8]) -> Parts
+    ensures { λ r. ⌜ r ≡ partsAnswer config (now (msg .entry)) ⌝ }
 {
     if !config.valid() {
-        return Fields {
+        return Parts {
             verdict: Verdict::Refused(Refusal::BadHouse),
             header: Header::blank(),
+            from: 0,
+            end: 0,
         };
     }
     let number = fault(config, msg);
     if number != 0 {
-        return Fields {
+        return Parts {
             verdict: Verdict::Refused(refusal(number)),
             header: Header::blank(),
+            from: 0,
+            end: 0,
         };
     }
-    Fields {
-        verdict: Verdict::Accepted,
-        header: header_in(config, msg),
-    }
+    parts_in(config, msg)
+}
+
+// The same without the place of the value.
+pub fn fields(config: Config, msg: &[u8]) -> Fields
+    ensures { λ r. ⌜ r ≡ fieldsAnswer config (now (msg .entry)) ⌝ }
+{
+    let read = parts(config, msg);
+    let verdict = read.verdict;
+    let header = read.header;
+    Fields { verdict, header }
 }
 
 // The register's value, as a part of the message; empty without a register, and wherever `check` refuses.

@@ -1,4 +1,4 @@
-// The fields of a whole message.
+// The parts of a whole message.
 use super::cursor::MOST_FOUR;
 use super::cursor::bit;
 use super::cursor::read_number;
@@ -7,7 +7,9 @@ use super::register::read_register;
 use super::take::take_rows;
 use super::weigh::most_map;
 use config::Config;
+use config::Verdict;
 use message::Header;
+use message::Parts;
 use message::RegisterRead;
 use message::Tag;
 ghost use mathlib.Core.Path.{_≡_};
@@ -15,6 +17,7 @@ ghost use mathlib.Core.Bool.{true};
 ghost use Rattle.config.specs.Cluster.{validOf};
 ghost use Rattle.format.specs.Bytes.{bit as bitOf};
 ghost use Rattle.message.specs.Scans.{headOf, registerOf, scanOf};
+ghost use Rattle.message.specs.Answers.{partsAnswer};
 
 // The register of a message, and where its value lies.
 pub(crate) fn register_in(config: Config, msg: &[u8]) -> RegisterRead
@@ -26,10 +29,10 @@ pub(crate) fn register_in(config: Config, msg: &[u8]) -> RegisterRead
     read_register(config, msg, bit(head.map, 4), from)
 }
 
-// The header of a message that has passed.
-pub(crate) fn header_in(config: Config, msg: &[u8]) -> Header
+// The header of a message that has passed, and where its value lies.
+pub(crate) fn parts_in(config: Config, msg: &[u8]) -> Parts
     requires { ⌜ (validOf config ≡ true) × (scanOf config (now msg) .number ≡ 0) ⌝ }
-    ensures { λ r. ⌜ r ≡ scanOf config (now (msg .entry)) .header ⌝ }
+    ensures { λ r. ⌜ r ≡ partsAnswer config (now (msg .entry)) ⌝ }
 {
     let head = read_head(config, msg);
     let after_head = head.cursor;
@@ -47,16 +50,22 @@ pub(crate) fn header_in(config: Config, msg: &[u8]) -> Header
     let after_sheet = sheet.cursor;
     let ledger = sheet.ledger;
     let note = read_number(msg, bit(head.map, 6), 4, 1, MOST_FOUR, after_sheet);
-    Header {
-        kind: head.kind as u8,
-        server: head.server as u8,
-        desk: head.desk as u16,
-        round: head.round as u32,
-        tag: Tag {
-            stamp: register.stamp as u32,
-            desk: register.desk as u16,
+    let from = register.from;
+    Parts {
+        verdict: Verdict::Accepted,
+        header: Header {
+            kind: head.kind as u8,
+            server: head.server as u8,
+            desk: head.desk as u16,
+            round: head.round as u32,
+            tag: Tag {
+                stamp: register.stamp as u32,
+                desk: register.desk as u16,
+            },
+            ledger,
+            note: note.x as u32,
         },
-        ledger,
-        note: note.x as u32,
+        from,
+        end: from + (register.length as usize),
     }
 }

@@ -8,8 +8,7 @@ use config::Number;
 use config::Verdict;
 use message::Header;
 use message::Tag;
-use reader::fields;
-use reader::value;
+use reader::parts;
 use writer::write;
 ghost use mathlib.Core.Path.{_≡_};
 ghost use lib.ListN.{length};
@@ -42,9 +41,11 @@ pub struct Received {
 pub fn receive(config: Config, msg: &[u8]) -> Received
     ensures { λ r. ⌜ r ≡ receiveOf config (now (msg .entry)) ⌝ }
 {
-    let read = fields(config, msg);
+    let read = parts(config, msg);
     let verdict = read.verdict;
     let header = read.header;
+    let from = read.from;
+    let end = read.end;
     let tag = header.tag;
     let ledger = header.ledger;
     Received {
@@ -61,7 +62,7 @@ pub fn receive(config: Config, msg: &[u8]) -> Received
             register: Register {
                 stamp: tag.stamp,
                 desk: tag.desk,
-                value: Value::of(value(config, msg)),
+                value: Value::of(&msg[from..end]),
             },
         },
     }

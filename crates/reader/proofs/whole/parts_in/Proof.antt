@@ -1,12 +1,15 @@
--- `header_in` meets its contract: each part in turn, from the cursor of the one before it; each number fits its field.
+-- `parts_in` meets its contract: each part in turn, from the cursor of the one before it; each number fits its field, and the value lies within the message.
+use Prim.Native.Nat.{_+_, _<_}
 use native.Mathlib.Omega.{arith}
 use mathlib.Core.Path.{_≡_, ap, sym, _∙_}
 use borrow.Author.Needs.{needs}
 use Rattle.message.specs.Cursors.{readNumber}
-use Rattle.message.specs.Scans.{rowsAfter, sheetOf, readNote, scanOf}
+use Rattle.format.specs.Bytes.{bit}
+use Rattle.message.specs.Scans.{headOf, registerOf, rowsAfter, sheetOf, readNote, scanOf}
+use Rattle.reader.proofs.Answered.{check-found, parts-accepted, register-within}
 use Rattle.reader.proofs.Placed.{number-place, sheet-passed}
-use Rattle.reader.proofs.whole.header_in.Statement.{statement}
-use Rattle.reader.proofs.whole.header_in.Tie as tie
+use Rattle.reader.proofs.whole.parts_in.Statement.{statement}
+use Rattle.reader.proofs.whole.parts_in.Tie as tie
 
 read-head-requires : tie.Need-read-head-requires
 read-head-requires c κs = search needs
@@ -51,26 +54,37 @@ bit-requires-3 c κs = search needs
 read-number-requires-2 : tie.Need-read-number-requires-2
 read-number-requires-2 c κs = search needs
 
-cast-t14 : tie.Need-cast-t14
-cast-t14 c = omega (arith, c .before .before .before .before .before .before .before .before .before .before .before .before .before .read-head .ensures .2)
-
-cast-t15 : tie.Need-cast-t15
-cast-t15 c = omega (arith, c .before .before .before .before .before .before .before .before .before .before .before .before .before .before .read-head .ensures .3)
-
 cast-t16 : tie.Need-cast-t16
-cast-t16 c = omega (arith, c .before .before .before .before .before .before .before .before .before .before .before .before .before .before .before .read-head .ensures .4)
+cast-t16 c = omega (arith, c .before .before .before .before .before .before .before .before .before .before .before .before .before .read-head .ensures .2)
 
 cast-t17 : tie.Need-cast-t17
-cast-t17 c = omega (arith, c .before .before .before .before .before .before .before .before .before .before .before .before .before .before .before .before .read-head .ensures .5)
+cast-t17 c = omega (arith, c .before .before .before .before .before .before .before .before .before .before .before .before .before .before .read-head .ensures .3)
 
 cast-t18 : tie.Need-cast-t18
-cast-t18 c = omega (arith, c .before .before .before .before .before .before .before .before .before .before .before .before .before .before .read-register .ensures .2)
+cast-t18 c = omega (arith, c .before .before .before .before .before .before .before .before .before .before .before .before .before .before .before .read-head .ensures .4)
 
 cast-t19 : tie.Need-cast-t19
-cast-t19 c = omega (arith, c .before .before .before .before .before .before .before .before .before .before .before .before .before .before .before .read-register .ensures .3)
+cast-t19 c = omega (arith, c .before .before .before .before .before .before .before .before .before .before .before .before .before .before .before .before .read-head .ensures .5)
+
+cast-t20 : tie.Need-cast-t20
+cast-t20 c = omega (arith, c .before .before .before .before .before .before .before .before .before .before .before .before .before .before .read-register .ensures .2)
 
 cast-t21 : tie.Need-cast-t21
-cast-t21 c = search needs
+cast-t21 c = omega (arith, c .before .before .before .before .before .before .before .before .before .before .before .before .before .before .before .read-register .ensures .3)
+
+cast-t23 : tie.Need-cast-t23
+cast-t23 c = search needs
+
+-- the value ends within the message, so its end fits
+end-fits : (c : tie.After-read-register) → c .read-register .result .from + c .read-register .result .length < 18446744073709551616
+end-fits c =
+    let a = c .before .before .before .before .before .args in
+    let register : c .read-register .result ≡ registerOf (a .config) (a .msg .now) (bit (headOf (a .config) (a .msg .now) .map) 4) (headOf (a .config) (a .msg .now) .cursor) =
+    rw (← c .before .before .before .read-head .ensures .0, ← c .before .bit .ensures .0) (c .read-register .ensures .0) in
+    omega (arith, register-within _ _ _ register (c .before .before .before .before .before .pre .1))
+
+add-t26 : tie.Need-add-t26
+add-t26 c = omega (arith, end-fits (c .before .before .before .before .before .before .before .before .before .before .before .before .before .before .before .before))
 
 returns : tie.Need-returns
 unfolding scanOf sheetOf readNote
@@ -86,10 +100,12 @@ returns c =
     let a = c .before .before .before .before .before .before .before .before .before .before .before .before .before .before .before .before .before .before .before .before .before .args in
     let end = rowsAfter (a .config) (a .msg .now) (c .before .before .before .before .before .before .before .before .before .before .before .before .read-number .result .x) (c .before .before .before .before .before .before .before .before .before .before .before .before .read-number .result) 16 in
     let note = c .before .before .before .before .before .before .before .read-number2 .ensures .0 ∙ ap (readNumber _ _ _ _ _) (rows .1) ∙ sym (number-place _ _ _ _ _ end (clean (c .before .before .before .before .before .before .before .before .before .before .before .before))) in
-    rw (← head, ← register-stands, ← register, ← sheet-stands, ← most, ← map, ← rows .0, ← note-stands, ← note)
+    let pre = c .before .before .before .before .before .before .before .before .before .before .before .before .before .before .before .before .before .before .before .before .before .pre in
+    let checked = check-found _ _ 0 (pre .0) (sym (pre .1)) in
+    rw (← parts-accepted _ _ checked, ← head, ← register-stands, ← register, ← sheet-stands, ← most, ← map, ← rows .0, ← note-stands, ← note)
 
-pub header-in-spec : {M : Type 1} → statement M
-header-in-spec =
+pub parts-in-spec : {M : Type 1} → statement M
+parts-in-spec =
     tie.close
     (tie.spec
     read-head-requires
@@ -101,11 +117,12 @@ header-in-spec =
     take-rows-requires
     bit-requires-3
     read-number-requires-2
-    cast-t14
-    cast-t15
     cast-t16
     cast-t17
     cast-t18
     cast-t19
+    cast-t20
     cast-t21
+    cast-t23
+    add-t26
     returns)
