@@ -22,7 +22,9 @@ pub fn write(config: Config, header: Header, value: &[u8], out: &mut [u8], at: u
         return Number::Refused(refusal(found));
     }
     let ledger = header.ledger;
-    let rows = mark_rows(ledger);
+    let counts = ledger.counts;
+    let cells = ledger.cells;
+    let rows = mark_rows(&counts, &cells);
     let plan = measure(config, header, value.len() as u64, rows.map, rows.bytes);
     if out.len() < at {
         return Number::Refused(Refusal::Narrow);
@@ -30,6 +32,15 @@ pub fn write(config: Config, header: Header, value: &[u8], out: &mut [u8], at: u
     if ((out.len() - at) as u64) < plan.bytes {
         return Number::Refused(Refusal::Narrow);
     }
-    let written = fill(&mut out[at..], config, header, value, plan.map, rows);
+    let written = fill(
+        &mut out[at..],
+        config,
+        header,
+        &counts,
+        &cells,
+        value,
+        plan.map,
+        rows,
+    );
     Number::Value((at + written) as u64)
 }

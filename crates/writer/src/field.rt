@@ -58,12 +58,15 @@ pub(crate) fn put_cells(out: &mut [u8], row: &[u32]) -> usize
     p
 }
 
-// A row, from its count, its cell map and its cells.
+// A row, from its count, its cell map and its cells, which are not looked at where the row is absent.
 pub(crate) fn put_row(out: &mut [u8], count: u64, map: u64, row: &[u32]) -> usize
     requires { ⌜ (length (now row) ≡ 16) × (count ≤ 65535) × (map ≤ 65535) × (map ≡ cellMap (λ j. getD (now row) j 0)) × (length (rowOf count (λ j. getD (now row) j 0)) ≤ length (now out)) ⌝ }
     ensures { λ r. ⌜ (now (out .exit) ≡ over (rowOf count (λ j. getD (now (row .entry)) j 0)) (now (out .entry))) × (r ≡ length (rowOf count (λ j. getD (now (row .entry)) j 0))) ⌝ }
 {
     let stands = count + map;
+    if stands == 0 {
+        return 0;
+    }
     let mut p = put_number(out, stands, 2, count);
     p += put_number(&mut out[p..], stands, 2, map);
     p += put_cells(&mut out[p..], row);
@@ -71,14 +74,9 @@ pub(crate) fn put_row(out: &mut [u8], count: u64, map: u64, row: &[u32]) -> usiz
 }
 
 // All rows, from the counts, the cells and the cell maps of a ledger.
-pub(crate) fn put_rows(
-    out: &mut [u8],
-    counts: [u16; 16],
-    cells: [u32; 256],
-    maps: [u16; 16],
-) -> usize
-    requires { ⌜ (maps ≡ table 16 (λ i. cellMap (λ j. getD cells (i * 16 + j) 0))) × (length (rowsOf (λ i. getD counts i 0) (λ i j. getD cells (i * 16 + j) 0)) ≤ length (now out)) ⌝ }
-    ensures { λ r. ⌜ (now (out .exit) ≡ over (rowsOf (λ i. getD counts i 0) (λ i j. getD cells (i * 16 + j) 0)) (now (out .entry))) × (r ≡ length (rowsOf (λ i. getD counts i 0) (λ i j. getD cells (i * 16 + j) 0))) ⌝ }
+pub(crate) fn put_rows(out: &mut [u8], counts: &[u16], cells: &[u32], maps: &[u16]) -> usize
+    requires { ⌜ (length (now counts) ≡ 16) × (length (now cells) ≡ 256) × (now maps ≡ table 16 (λ i. cellMap (λ j. getD (now cells) (i * 16 + j) 0))) × (length (rowsOf (λ i. getD (now counts) i 0) (λ i j. getD (now cells) (i * 16 + j) 0)) ≤ length (now out)) ⌝ }
+    ensures { λ r. ⌜ (now (out .exit) ≡ over (rowsOf (λ i. getD (now (counts .entry)) i 0) (λ i j. getD (now (cells .entry)) (i * 16 + j) 0)) (now (out .entry))) × (r ≡ length (rowsOf (λ i. getD (now (counts .entry)) i 0) (λ i j. getD (now (cells .entry)) (i * 16 + j) 0))) ⌝ }
 {
     let mut p: usize = 0;
     let mut i: usize = 0;

@@ -1,16 +1,14 @@
 // What of a header stands in its message, and how long the message is, found before the first byte is written.
 use config::Config;
-use ledger::Ledger;
 use message::Header;
 ghost use mathlib.Core.Path.{_≡_};
-ghost use Prim.Native.Nat.{ℕ, _+_, _≤_, _<_};
+ghost use Prim.Native.Nat.{ℕ, _+_, _*_, _≤_, _<_};
 ghost use lib.ListN.{length, getD};
 ghost use Rattle.quorums.specs.Sum.{sum};
-ghost use Rattle.ledger.specs.Ledgers.{countOf, cellOf};
 ghost use Rattle.ledger.specs.Tables.{table};
 ghost use Rattle.format.specs.Bytes.{stands as standsOf};
 ghost use Rattle.format.specs.Table.{cellMap, rowMap, rows as rowsOf};
-ghost use Rattle.writer.specs.Outlines.{outlineOf};
+ghost use Rattle.writer.specs.Outlines.{Counted, outlineOf};
 
 // The cells of one row that stand: their map and their number.
 pub(crate) struct RowMarks {
@@ -21,7 +19,7 @@ pub(crate) struct RowMarks {
 // The rows of a ledger that stand, the cell map of each row, and how many bytes the rows take.
 pub(crate) struct Rows {
     pub map: u64,
-    pub cells: [u16; 16],
+    pub maps: [u16; 16],
     pub bytes: u64,
 }
 
@@ -59,28 +57,40 @@ pub(crate) fn row_marks(row: &[u32]) -> RowMarks
     RowMarks { map, cells }
 }
 
-pub(crate) fn mark_rows(ledger: Ledger) -> Rows
-    ensures { λ r. ⌜ (r .map ≡ rowMap (countOf ledger) (cellOf ledger)) × (r .cells ≡ table 16 (λ i. cellMap (cellOf ledger i))) × (r .bytes ≡ length (rowsOf (countOf ledger) (cellOf ledger))) × (r .map ≤ 65535) × (r .bytes ≤ 1088) ⌝ }
+// The same of a row whose cells are all 0 where its count is, as in every ledger within bounds; they are then not looked at.
+pub(crate) fn counted_marks(count: u64, row: &[u32]) -> RowMarks
+    requires { ⌜ (length (now row) ≡ 16) × (count ≡ 0 → sum 16 (λ j. getD (now row) j 0) ≡ 0) ⌝ }
+    ensures { λ r. ⌜ (r .map ≡ cellMap (λ j. getD (now (row .entry)) j 0)) × (r .cells ≡ sum 16 (λ j. standsOf (getD (now (row .entry)) j 0))) × (r .map ≤ 65535) × (r .cells ≤ 16) ⌝ }
 {
-    let counts = ledger.counts;
-    let all = ledger.cells;
+    if count == 0 {
+        return RowMarks { map: 0, cells: 0 };
+    }
+    row_marks(row)
+}
+
+// The rows of a ledger in which every row whose count is 0 is empty.
+pub(crate) fn mark_rows(counts: &[u16], cells: &[u32]) -> Rows
+    requires { ⌜ (length (now counts) ≡ 16) × (length (now cells) ≡ 256) × Counted (now counts) (now cells) ⌝ }
+    ensures { λ r. ⌜ (r .map ≡ rowMap (λ i. getD (now (counts .entry)) i 0) (λ i j. getD (now (cells .entry)) (i * 16 + j) 0)) × (r .maps ≡ table 16 (λ i. cellMap (λ j. getD (now (cells .entry)) (i * 16 + j) 0))) × (r .bytes ≡ length (rowsOf (λ i. getD (now (counts .entry)) i 0) (λ i j. getD (now (cells .entry)) (i * 16 + j) 0))) × (r .map ≤ 65535) × (r .bytes ≤ 1088) ⌝ }
+{
     let mut map: u64 = 0;
-    let mut cells: [u16; 16] = [0; 16];
+    let mut maps: [u16; 16] = [0; 16];
     let mut bytes: u64 = 0;
     let mut power: u64 = 1;
     let mut i: usize = 0;
     while i < 16 {
         let a = i * 16;
         let e = a + 16;
-        let row = row_marks(&all[a..e]);
-        let m = mark((counts[i] as u64) + row.map);
+        let count = counts[i] as u64;
+        let row = counted_marks(count, &cells[a..e]);
+        let m = mark(count);
         map += m * power;
-        cells[i] = row.map as u16;
+        maps[i] = row.map as u16;
         bytes += 4 * m + 4 * row.cells;
         power *= 2;
         i += 1;
     }
-    Rows { map, cells, bytes }
+    Rows { map, maps, bytes }
 }
 
 // The map and the size of a message, from its header, the length of its value, and the row map and bytes of its rows.

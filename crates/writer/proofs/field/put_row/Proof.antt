@@ -1,15 +1,16 @@
--- `put_row` meets its contract: count, cell map, cells, one after the other. A row stands where its count or its cell map does.
+-- `put_row` meets its contract: count, cell map, cells, one after the other. A row stands where its count or its cell map does; one that doesn't has no
+-- bytes.
 use Prim.Native.Nat.{ℕ, _+_, _≤_}
-use mathlib.Core.Path.{_≡_, ap, _∙_}
-use mathlib.Core.List.{List, _++_}
+use mathlib.Core.Path.{_≡_, sym, ap, _∙_}
+use mathlib.Core.List.{List, [], _++_}
 use borrow.Author.Needs.{needs}
 use denote.Ref.{now}
 use lib.ListN.{length, getD}
 use Rattle.format.specs.Bytes.{number}
 use Rattle.format.specs.Table.{cells, row}
 use Rattle.message.specs.Answers.{over}
-use Rattle.writer.proofs.Overs.{Written, back, room-first, written-place, written-fits, written-lent, written-next}
-use Rattle.writer.proofs.Rows.{row-written}
+use Rattle.writer.proofs.Overs.{Written, back, over-nothing, room-first, written-place, written-fits, written-lent, written-next}
+use Rattle.writer.proofs.Rows.{row-written, row-absent}
 use Rattle.writer.proofs.field.put_row.Statement.{statement}
 use Rattle.writer.proofs.field.put_row.Tie as tie
 
@@ -50,7 +51,7 @@ room-count s = room-first (count-bytes s) (map-bytes s) (entry s) (room-map s)
 -- after each call: the call before, the function's entry, the buffer and the place, and that so much is written
 
 abbrev start-count : tie.After-put-number → tie.Start
-start-count c = c .before .before .before .before
+start-count c = c .before .before .before .before .before
 
 written-count : (c : tie.After-put-number) → Written (count-bytes (start-count c)) (entry (start-count c)) (c .put-number .last .0) (c .put-number .result)
 written-count c = record { is-buffer = c .put-number .ensures .0; is-place = c .put-number .ensures .1; room = room-count (start-count c) }
@@ -88,8 +89,14 @@ written-cells c = written-next (written-map (prev-cells c)) (cells-bytes (start-
 add-stands : tie.Need-add-stands
 add-stands c = search needs
 
+returns : tie.Need-returns
+returns c =
+    let s = c .before .before .before in
+    let none : row (s .args .count) (λ j. getD (now (s .args .row)) j 0) ≡ [] = row-absent _ _ _ (s .pre .3) (c .if1 .taken) in
+    (rw none (sym (over-nothing _)), rw none)
+
 put-number-requires : tie.Need-put-number-requires
-put-number-requires c κs = room-count (c .before .before .before)
+put-number-requires c κs = room-count (c .before .before .before .before)
 
 sub-put-number : tie.Need-sub-put-number
 sub-put-number c = written-place (written-count (c .before .before))
@@ -124,8 +131,8 @@ add-p-2 c = written-fits (written-cells (c .before .before)) (start-cells (c .be
 same-length : tie.Need-same-length
 same-length c = search needs
 
-returns : tie.Need-returns
-returns c =
+returns-2 : tie.Need-returns-2
+returns-2 c =
     let w = written-cells (c .before .before) in
     let e = whole (start-cells (c .before .before)) in
     (w .is-buffer ∙ ap (λ (x : List ℕ). over x (entry (start-cells (c .before .before)))) e, w .is-place ∙ ap length e)
@@ -135,6 +142,7 @@ put-row-spec =
     tie.close
     (tie.spec
     add-stands
+    returns
     put-number-requires
     sub-put-number
     part-put-number-start
@@ -147,4 +155,4 @@ put-row-spec =
     put-cells-requires
     add-p-2
     same-length
-    returns)
+    returns-2)

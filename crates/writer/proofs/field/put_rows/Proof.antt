@@ -3,15 +3,13 @@ use Prim.Native.Nat.{ℕ, _+_, _*_, _-_, _≤_}
 use native.Mathlib.Omega.{arith}
 use mathlib.Core.Path.{_≡_, sym, ap, _∙_}
 use mathlib.Core.List.{List, _++_}
-use mir.Syntax.{w16, w32}
 use borrow.Author.Needs.{needs}
 use denote.Ref.{now}
 use lib.ListN.{length, getD}
-use Rattle.ledger.proofs.Tables.{table-at}
+use Rattle.ledger.proofs.Tables.{table-length, table-at}
 use Rattle.format.specs.Bytes.{series}
 use Rattle.format.specs.Table.{cellMap, row, rows}
 use Rattle.writer.proofs.Overs.{Written, back, series-room, written-none, written-turn, written-length, written-place, written-fits, written-lent, written-next}
-use Rattle.ledger.proofs.Ranges.{array-length, array-fits}
 use Rattle.writer.proofs.Rows.{part-length, part-map, part-row}
 use Rattle.writer.proofs.field.put_rows.Statement.{statement}
 use Rattle.writer.proofs.field.put_rows.Tie as tie
@@ -29,13 +27,17 @@ Inv-loop out₀ counts cells maps p₀ i₀ out p i =
 abbrev μ-loop : tie.MeasureT-loop
 μ-loop out₀ counts cells maps p₀ i₀ out p i = 16 - i
 
--- there are 256 cells
-cells-length : (s : tie.Start Inv-loop μ-loop) → length (s .args .t3) ≡ 256
-cells-length s = array-length w32 256 (s .args .t3) _ (s .good .1 .1 .0)
+-- there are 16 cell maps
+maps-length : (s : tie.Start Inv-loop μ-loop) → length (now (s .args .maps)) ≡ 16
+maps-length s = ap length (s .pre .2) ∙ table-length 16 _
+
+-- the function's start, seen from a turn
+abbrev start : tie.In-loop Inv-loop μ-loop → tie.Start Inv-loop μ-loop
+start c = c .before .before .before .before .before .before
 
 loop-holds : tie.Need-loop-holds Inv-loop μ-loop
 unfolding series rows
-loop-holds c = (omega arith, c .before .pre .1, written-none _)
+loop-holds c = (omega arith, c .before .before .before .before .pre .3, written-none _)
 
 mul-a : tie.Need-mul-a Inv-loop μ-loop
 mul-a c = search needs
@@ -55,20 +57,20 @@ part-put-row-end c = search needs
 mul-put-row : tie.Need-mul-put-row Inv-loop μ-loop
 mul-put-row c = search needs
 
-array-read-put-row : tie.Need-array-read-put-row Inv-loop μ-loop
-array-read-put-row c = search needs
+shared-slice-read-put-row : tie.Need-shared-slice-read-put-row Inv-loop μ-loop
+shared-slice-read-put-row c = search needs
 
 cast-put-row : tie.Need-cast-put-row Inv-loop μ-loop
-cast-put-row c = search needs
+cast-put-row c = omega (arith, c .shared-slice-known4 .given (c .before .before .before .loop .i))
 
 mul-put-row-2 : tie.Need-mul-put-row-2 Inv-loop μ-loop
 mul-put-row-2 c = search needs
 
-array-read-put-row-2 : tie.Need-array-read-put-row-2 Inv-loop μ-loop
-array-read-put-row-2 c = search needs
+shared-slice-read-put-row-2 : tie.Need-shared-slice-read-put-row-2 Inv-loop μ-loop
+shared-slice-read-put-row-2 c = omega (arith, maps-length (start (c .before .before .before)))
 
 cast-put-row-2 : tie.Need-cast-put-row-2 Inv-loop μ-loop
-cast-put-row-2 c = search needs
+cast-put-row-2 c = omega (arith, c .shared-slice-known5 .given (c .before .before .before .before .loop .i))
 
 mul-put-row-3 : tie.Need-mul-put-row-3 Inv-loop μ-loop
 mul-put-row-3 c = search needs
@@ -80,15 +82,12 @@ part-put-row-start-2 : tie.Need-part-put-row-start-2 Inv-loop μ-loop
 part-put-row-start-2 c = search needs
 
 part-put-row-end-2 : tie.Need-part-put-row-end-2 Inv-loop μ-loop
-part-put-row-end-2 c = omega (arith, cells-length (c .before .before .before .before .before))
+part-put-row-end-2 c = omega (arith, start (c .before .before .before) .pre .1)
 
 -- row i has room
 
 abbrev rowsOf : tie.Start Inv-loop μ-loop → ℕ → List ℕ
-rowsOf s = rowAt (s .args .t2) (s .args .t3)
-
-abbrev start : tie.In-loop Inv-loop μ-loop → tie.Start Inv-loop μ-loop
-start c = c .before .before .before
+rowsOf s = rowAt (now (s .args .counts)) (now (s .args .cells))
 
 room : (c : tie.In-loop Inv-loop μ-loop)
     → length (series (c .before .loop .i) (rowsOf (start c)) ++ rowsOf (start c) (c .before .loop .i)) ≤ length (now (start c .args .out))
@@ -96,21 +95,22 @@ room c = series-room (c .before .loop .i) 16 (rowsOf (start c)) (now (start c .a
 
 put-row-requires : tie.Need-put-row-requires Inv-loop μ-loop
 put-row-requires c κs =
-    let s = c .before .before .before .before .before .before in
-    let l = c .before .before .before .before .loop in
-    let map-is : getD (s .args .t4) (l .i) 0 ≡ cellMap (λ j. getD (s .args .t3) (l .i * 16 + j) 0) =
-    ap (λ (t : List ℕ). getD t (l .i) 0) (s .pre .0) ∙ table-at 16 _ (l .i) (c .before .before .before .loop-test .taken) in (
-      part-length (s .args .t3) (l .i) (cells-length s) (c .before .before .before .loop-test .taken),
-      omega (arith, array-fits w16 16 (s .args .t2) _ (s .good .1 .0) (l .i)),
-      omega (arith, array-fits w16 16 (s .args .t4) _ (s .good .1 .1 .1 .0) (l .i)),
-      map-is ∙ sym (part-map (s .args .t3) (l .i)),
-      rw (part-row (getD (s .args .t2) (l .i) 0) (s .args .t3) (l .i)) (written-lent (l .inv .2) (rowsOf s (l .i)) (room (c .before .before .before))),
+    let turn = c .before .before .before .before in
+    let s = start turn in
+    let l = turn .before .loop in
+    let map-is : getD (now (s .args .maps)) (l .i) 0 ≡ cellMap (λ j. getD (now (s .args .cells)) (l .i * 16 + j) 0) =
+    ap (λ (t : List ℕ). getD t (l .i) 0) (s .pre .2) ∙ table-at 16 _ (l .i) (turn .loop-test .taken) in (
+      part-length (now (s .args .cells)) (l .i) (s .pre .1) (turn .loop-test .taken),
+      omega (arith, c .before .before .shared-slice-known4 .given (l .i)),
+      omega (arith, c .before .shared-slice-known5 .given (l .i)),
+      map-is ∙ sym (part-map (now (s .args .cells)) (l .i)),
+      rw (part-row (getD (now (s .args .counts)) (l .i) 0) (now (s .args .cells)) (l .i)) (written-lent (l .inv .2) (rowsOf s (l .i)) (room turn)),
     )
 
 -- one row more
 
 abbrev again : tie.After-put-row Inv-loop μ-loop → tie.In-loop Inv-loop μ-loop
-again c = c .before .before .before .before
+again c = c .before .before .before .before .before
 
 turn : (c : tie.After-put-row Inv-loop μ-loop)
     → Written (series (again c .before .loop .i + 1) (rowsOf (start (again c)))) (now (start (again c) .args .out))
@@ -119,7 +119,7 @@ turn : (c : tie.After-put-row Inv-loop μ-loop)
 turn c =
     let a = start (again c) .args in
     let l = again c .before .loop in
-    let e = part-row (getD (a .t2) (l .i) 0) (a .t3) (l .i) in
+    let e = part-row (getD (now (a .counts)) (l .i) 0) (now (a .cells)) (l .i) in
     written-turn (l .i) (rowsOf (start (again c)))
     (written-next (l .inv .2) (rowsOf (start (again c)) (l .i)) _ _ (room (again c)) (rw e at (c .put-row .ensures .0)) (rw e at (c .put-row .ensures .1)))
 
@@ -133,7 +133,7 @@ loop-less : tie.Need-loop-less Inv-loop μ-loop
 loop-less c = search needs
 
 loop-again : tie.Need-loop-again Inv-loop μ-loop
-loop-again c = (omega arith, c .before .before .before .before .before .before .before .loop .inv .1, turn (c .before .before))
+loop-again c = (omega arith, again (c .before .before) .before .loop .inv .1, turn (c .before .before))
 
 same-length : tie.Need-same-length Inv-loop μ-loop
 same-length c = written-length (c .before .loop .inv .2)
@@ -143,7 +143,7 @@ unfolding rows
 returns c =
     let l = c .before .loop in
     let e : l .i ≡ 16 = omega arith in
-    let s = c .before .before .before in
+    let s = c .before .before .before .before .before .before in
     let w : Written (series 16 (rowsOf s)) (now (s .args .out)) (l .out) (l .p) = rw e at (l .inv .2) in
     (w .is-buffer, w .is-place)
 
@@ -160,10 +160,10 @@ put-rows-spec =
     part-put-row-start
     part-put-row-end
     mul-put-row
-    array-read-put-row
+    shared-slice-read-put-row
     cast-put-row
     mul-put-row-2
-    array-read-put-row-2
+    shared-slice-read-put-row-2
     cast-put-row-2
     mul-put-row-3
     sub-put-row-2

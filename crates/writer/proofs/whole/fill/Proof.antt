@@ -1,11 +1,11 @@
 -- `fill` meets its contract: the table's fields one after the other.
-use Prim.Native.Nat.{ℕ, _+_, _≤_}
-use mathlib.Core.Path.{_≡_, ap, _∙_}
+use Prim.Native.Nat.{ℕ, _+_, _*_, _≤_}
+use mathlib.Core.Path.{_≡_, sym, ap, _∙_}
 use mathlib.Core.List.{List, _++_}
 use borrow.Author.Needs.{needs}
 use denote.Ref.{now}
-use lib.ListN.{length}
-use Rattle.ledger.specs.Ledgers.{countOf, cellOf}
+use lib.ListN.{length, getD}
+use Rattle.ledger.proofs.Tables.{table-length}
 use Rattle.format.specs.Bytes.{number}
 use Rattle.format.specs.Table.{head, register, rows}
 use Rattle.message.specs.Headers.{encode}
@@ -30,7 +30,7 @@ abbrev map-bytes : tie.Start → List ℕ
 map-bytes s = number (s .args .rows .map) 2 (s .args .rows .map)
 
 abbrev rows-bytes : tie.Start → List ℕ
-rows-bytes s = rows (countOf (s .args .header .ledger)) (cellOf (s .args .header .ledger))
+rows-bytes s = rows (λ i. getD (now (s .args .counts)) i 0) (λ i j. getD (now (s .args .cells)) (i * 16 + j) 0)
 
 abbrev note-bytes : tie.Start → List ℕ
 note-bytes s = number (s .args .header .note) 4 (s .args .header .note)
@@ -50,10 +50,10 @@ to-note s = to-rows s ++ note-bytes s
 -- there is room for each
 
 whole : (s : tie.Start) → to-note s ≡ encode (s .args .config) (s .args .header) (now (s .args .value))
-whole s = message-written (s .args .config) (s .args .header) (now (s .args .value)) (s .args .map) (s .args .rows .map) (s .pre .1) (s .pre .2)
+whole s = rw (s .pre .0, s .pre .1) (message-written (s .args .config) (s .args .header) (now (s .args .value)) (s .args .map) (s .args .rows .map) (s .pre .5) (s .pre .6))
 
 room-note : (s : tie.Start) → length (to-note s) ≤ length (entry s)
-room-note s = rw (whole s) (s .pre .4)
+room-note s = rw (whole s) (s .pre .8)
 
 room-rows : (s : tie.Start) → length (to-rows s) ≤ length (entry s)
 room-rows s = room-first (to-rows s) (note-bytes s) (entry s) (room-note s)
@@ -70,7 +70,7 @@ room-head s = room-first (head-bytes s) (register-bytes s) (entry s) (room-regis
 -- after each call: the call before, the function's entry, the buffer and the place, and that so much is written
 
 abbrev start-head : tie.After-put-head → tie.Start
-start-head c = c .before .before .before .before .before .before .before .before .before .before
+start-head c = c .before .before .before .before .before .before .before .before .before
 
 written-head : (c : tie.After-put-head) → Written (head-bytes (start-head c)) (entry (start-head c)) (c .put-head .last .0) (c .put-head .result)
 written-head c = record { is-buffer = c .put-head .ensures .0; is-place = c .put-head .ensures .1; room = room-head (start-head c) }
@@ -106,7 +106,7 @@ written-map : (c : tie.After-put-number) → Written (to-map (start-map c)) (ent
 written-map c = written-next (written-register (prev-map c)) (map-bytes (start-map c)) _ _ (room-map (start-map c)) (c .put-number .ensures .0) (c .put-number .ensures .1)
 
 abbrev prev-rows : tie.After-put-rows → tie.After-put-number
-prev-rows c = c .before .before .before .before
+prev-rows c = c .before .before .before .before .before
 
 abbrev start-rows : tie.After-put-rows → tie.Start
 start-rows c = start-map (prev-rows c)
@@ -139,7 +139,7 @@ cast-note : tie.Need-cast-note
 cast-note c = search needs
 
 put-head-requires : tie.Need-put-head-requires
-put-head-requires c κs = room-head (c .before .before .before .before .before .before .before .before .before)
+put-head-requires c κs = room-head (c .before .before .before .before .before .before .before .before)
 
 sub-put-register : tie.Need-sub-put-register
 sub-put-register c = written-place (written-head (c .before .before))
@@ -151,7 +151,7 @@ part-put-register-end : tie.Need-part-put-register-end
 part-put-register-end c = search needs
 
 put-register-requires : tie.Need-put-register-requires
-put-register-requires c κs = (start-head (c .before .before .before) .pre .0, written-lent (written-head (c .before .before .before)) (register-bytes (start-head (c .before .before .before))) (room-register (start-head (c .before .before .before))))
+put-register-requires c κs = (start-head (c .before .before .before) .pre .4, written-lent (written-head (c .before .before .before)) (register-bytes (start-head (c .before .before .before))) (room-register (start-head (c .before .before .before))))
 
 add-p : tie.Need-add-p
 add-p c = written-fits (written-register (c .before .before)) (start-register (c .before .before) .good .0 .0)
@@ -180,8 +180,14 @@ part-put-rows-start c = written-place (written-map (c .before .before))
 part-put-rows-end : tie.Need-part-put-rows-end
 part-put-rows-end c = search needs
 
+slice-aggregate-put-rows : tie.Need-slice-aggregate-put-rows
+slice-aggregate-put-rows c = sym (ap length (start-map (c .before .before .before .before) .pre .7) ∙ table-length 16 _)
+
 put-rows-requires : tie.Need-put-rows-requires
-put-rows-requires c κs = (start-map (c .before .before .before) .pre .3, written-lent (written-map (c .before .before .before)) (rows-bytes (start-map (c .before .before .before))) (room-rows (start-map (c .before .before .before))))
+put-rows-requires c κs =
+    let w = written-map (c .before .before .before .before) in
+    let s = start-map (c .before .before .before .before) in
+    (s .pre .2, s .pre .3, rw (s .pre .1) (s .pre .7), written-lent w (rows-bytes s) (room-rows s))
 
 add-p-3 : tie.Need-add-p-3
 add-p-3 c = written-fits (written-rows (c .before .before)) (start-rows (c .before .before) .good .0 .0)
@@ -229,6 +235,7 @@ fill-spec =
     sub-put-rows
     part-put-rows-start
     part-put-rows-end
+    slice-aggregate-put-rows
     put-rows-requires
     add-p-3
     sub-put-number-2
