@@ -112,9 +112,11 @@ impl Server {
         let config = self.config;
         let replica = self.replica;
         let ledger = replica.ledger;
+        let counts = ledger.counts;
         let told = other.ledger;
+        let told_counts = told.counts;
         let i = self.number as usize;
-        if ledger.counts[i] < told.counts[i] {
+        if counts[i] < told_counts[i] {
             return Joined {
                 verdict: Verdict::Refused(Refusal::Clash),
                 replica,

@@ -22,16 +22,16 @@ small : (s : tie.Start) → s .args .self .number < 16
 small s = server-small _ _ (fits-told _ (s .pre) .server-in)
 
 mul-if1 : tie.Need-mul-if1
-mul-if1 c = omega (arith, small (c .before .before .before .before))
+mul-if1 c = omega (arith, small (c .before .before .before .before .before .before))
 
-element-copy-out-if1 : tie.Need-element-copy-out-if1
-element-copy-out-if1 c = small (c .before .before .before .before)
+array-read-if1 : tie.Need-array-read-if1
+array-read-if1 c = small (c .before .before .before .before .before .before)
 
 mul-if1-2 : tie.Need-mul-if1-2
-mul-if1-2 c = omega (arith, small (c .before .before .before .before .before))
+mul-if1-2 c = omega (arith, small (c .before .before .before .before .before .before))
 
-element-copy-out-if1-2 : tie.Need-element-copy-out-if1-2
-element-copy-out-if1-2 c = small (c .before .before .before .before .before)
+array-read-if1-2 : tie.Need-array-read-if1-2
+array-read-if1-2 c = small (c .before .before .before .before .before .before)
 
 returns : tie.Need-returns
 unfolding joinOf clashes
@@ -48,9 +48,9 @@ join-spec =
     tie.close
     (tie.spec
     mul-if1
-    element-copy-out-if1
+    array-read-if1
     mul-if1-2
-    element-copy-out-if1-2
+    array-read-if1-2
     returns
     join-requires
     returns-2)
