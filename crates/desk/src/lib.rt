@@ -3,10 +3,12 @@ mod ask;
 mod begin;
 mod hear;
 mod heed;
+mod lent;
 mod operation;
 mod record;
 mod result;
 
+pub use lent::hear_lent;
 pub use operation::Operation;
 pub use record::Desk;
 pub use record::DeskAnswer;
