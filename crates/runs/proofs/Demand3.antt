@@ -1,5 +1,5 @@
--- Demand 3: for every cluster within bounds, and every list of begin, ask, serve, hear, result, drop, transfer, share and crash, refused, late and crashed
--- ones included, from a fresh cluster, whatever the network loses, doubles, delays or reorders but never forges.
+-- Demand 3: for every cluster within bounds, and every list of begin, ask, serve, hear, hear on a lent record, result, drop, transfer, share and crash,
+-- refused, late and crashed ones included, from a fresh cluster, whatever the network loses, doubles, delays or reorders but never forges.
 use Prim.Native.Nat.{ℕ, suc}
 use mathlib.Core.Path.{_≡_, refl, sym, ap₂, subst}
 use mathlib.Core.Bool.{true}

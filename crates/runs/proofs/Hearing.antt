@@ -1,4 +1,4 @@
--- A desk hears a message that was sent as the machine's does.
+-- A desk hears a message that was sent as the machine's does, and so it does on a lent record.
 use Prim.Native.Nat.{ℕ, _≤_, _<_}
 use mathlib.Core.Path.{_≡_, refl, sym, ap, subst, _∙_}
 use mathlib.Core.Logic.{_↔_}
@@ -24,7 +24,7 @@ use Rattle.machine.proofs.Moves.{Seated}
 use Rattle.machine.proofs.Clashes.{Joins}
 use Rattle.machine.proofs.WorkRanges.{HeadRange}
 use Rattle.machine.proofs.Ranges.{DeskRange}
-use Rattle.runs.specs.Calls.{heardCalled, hearCall}
+use Rattle.runs.specs.Calls.{heardCalled, hearCall, hearLentCall}
 use Rattle.runs.proofs.Records.{ledgerFor, replicaFor, envelopeFor, operationFor, deskFor, calledFor, Held}
 use Rattle.runs.proofs.Ledgers.{lacks-for, lacks-none}
 use Rattle.runs.proofs.Messages.{join-for, joinable-for, received-for}
@@ -134,3 +134,8 @@ pub hear-for : (c : Config) → validOf c ≡ true → (sent : List Message) (d 
 unfolding hearCall hearOf
 hear-for c valid sent d seated x w h m k =
     rw (desk-fits c valid sent d seated x w h, received-for c valid m (k .head) (k .held)) (fields-for c valid d x h m k)
+
+-- Hear on a lent record comes to what hear comes to: the same answer, and in the lent place the record that hear hands back.
+pub lent-same : (x : Desk) (msg : List ℕ) → hearLentCall x msg ≡ hearCall x msg
+unfolding hearLentCall hearCall
+lent-same x msg = refl

@@ -21,7 +21,7 @@ use Rattle.machine.specs.Clauses.{by-desk, by-message}
 use Rattle.machine.proofs.Lists.{nth-in}
 use Rattle.machine.proofs.Moves.{Seated}
 use Rattle.machine.proofs.Clashes.{found-includes, server-joins, desk-joins, own-count, reply-count}
-use Rattle.runs.specs.Steps.{Step, begin, ask, serve, hear, result, drop, transfer, share, crash, plain, Typed}
+use Rattle.runs.specs.Steps.{Step, begin, ask, serve, hear, hear-lent, result, drop, transfer, share, crash, plain, Typed}
 use Rattle.runs.specs.Calls.{Called}
 use Rattle.runs.specs.Runs.{State, Made, opened, nothing, onServer, onDesk, onCrash, afterServer, afterDesk, afterCrash, take, Run, runOf, stepFrom, at, answerAt}
 use Rattle.runs.specs.Clauses.{plainRun}
@@ -32,7 +32,7 @@ use Rattle.runs.proofs.Ledgers.{fresh-for}
 use Rattle.runs.proofs.Registers.{start-for}
 use Rattle.runs.proofs.Servers.{transfer-for, share-for, serve-for}
 use Rattle.runs.proofs.Desks.{begin-for, ask-for, result-for, drop-for}
-use Rattle.runs.proofs.Hearing.{Hearable, hear-for}
+use Rattle.runs.proofs.Hearing.{Hearable, hear-for, lent-same}
 
 -- what a step gives is the same: the answer, and a state that stands for the machine's
 pub record Same (c : Config) (m : PlainMade) (p : Made) : Type 0 where
@@ -225,6 +225,11 @@ module _ (c : Config) (valid : validOf c ≡ true) (steps : List Step) (typed : 
       message-same c (plainAt r k) t h q _ _
       (λ m sent.
       desk-same c (plainAt r k) t h d _ _ (λ l. hear-for c valid _ d l _ (desk-range c valid steps typed k d) (desk-held c valid steps typed k d) m (hearable k q m sent d)))
+  step-same k t h (hear-lent d q) =
+      message-same c (plainAt r k) t h q _ _
+      (λ m sent.
+      desk-same c (plainAt r k) t h d _ _
+      (λ l. lent-same _ _ ∙ hear-for c valid _ d l _ (desk-range c valid steps typed k d) (desk-held c valid steps typed k d) m (hearable k q m sent d)))
   step-same k t h (result d) = desk-same c (plainAt r k) t h d _ _ (λ l. result-for c valid _ d l _ (desk-range c valid steps typed k d) (desk-held c valid steps typed k d))
   step-same k t h (drop d) = desk-same c (plainAt r k) t h d _ _ (λ l. drop-for c valid _ d l _ (desk-range c valid steps typed k d) (desk-held c valid steps typed k d))
   step-same k t h (transfer i j amount) =

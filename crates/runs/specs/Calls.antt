@@ -1,6 +1,6 @@
--- What a call of the program comes to in a run: its answer, the record handed back, and the bytes sent. Each is read off the definition that the
--- function's contract cites. Answers are written as the plain machine writes them (paper 01: a step's answer is its number, "late", or accepted with all
--- that the call hands back besides its record).
+-- What a call of the program comes to in a run: its answer, the record handed back or left in the lent place, and the bytes sent. Each is read off the
+-- definition that the function's contract cites. Answers are written as the plain machine writes them (paper 01: a step's answer is its number, "late", or
+-- accepted with all that the call hands back besides its record).
 use Prim.Native.Nat.{ℕ}
 use mathlib.Core.Bool.{true, false, cond}
 use mathlib.Core.List.{List, [], _∷_}
@@ -109,6 +109,10 @@ askCall x i place out = writtenCalled x (askOf x i out place) place
 
 unfoldable pub hearCall : Desk → List ℕ → Called Desk
 hearCall x msg = heardCalled (hearOf x msg)
+
+-- Hear on the lent record x hands back its answer alone: the party is the record found in the lent place after the call.
+unfoldable pub hearLentCall : Desk → List ℕ → Called Desk
+hearLentCall x msg = record { answer = hearingAnswer (hearOf x msg .hearing); party = hearOf x msg .desk; sent = [] }
 
 unfoldable pub resultCall : Desk → Called Desk
 resultCall x = record { answer = toldAnswer (resultOf x); party = x; sent = [] }

@@ -67,8 +67,9 @@ pub record Sheets (r : Run) : Type 0 where
 
 -- ---- the whole
 
--- Demand 3 of a run, which is any list of begin, ask, serve, hear, result, drop, transfer, share and crash, refused ones included, from a fresh cluster;
--- serve and hear take any message already sent, as often as the list says, so that the network may lose, double, delay and reorder, but never forges.
+-- Demand 3 of a run, which is any list of begin, ask, serve, hear, hear on a lent record, result, drop, transfer, share and crash, refused ones included,
+-- from a fresh cluster; serve and hear take any message already sent, as often as the list says, so that the network may lose, double, delay and reorder,
+-- but never forges.
 pub record Demand3 (r : Run) : Type 0 where
   -- "Every answer and every sent byte equals that of the plain machine in paper 01."
   pub answers : answersOf r ≡ plainAnswers r

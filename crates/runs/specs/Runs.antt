@@ -1,5 +1,5 @@
 -- The runs of the program (paper 01, "The runs of demand 3"): all n servers and one record for each desk number start fresh, with nothing sent; each call
--- gets the record that the last call on it handed back; serve and hear take any bytes already sent; after its crash a server takes no step.
+-- gets the record that the last call on it handed back or left; serve and hear take any bytes already sent; after its crash a server takes no step.
 use Prim.Native.Nat.{ℕ, zero, suc}
 use mathlib.Core.Bool.{Bool, true, false, cond}
 use mathlib.Core.List.{List, [], _++_}
@@ -11,8 +11,8 @@ use Rattle.desk.specs.declared.record.Desk.{Desk}
 use Rattle.desk.specs.Desks.{openOf as openDesk}
 use Rattle.machine.specs.Calls.{Answer, unmade, done}
 use Rattle.machine.specs.Runs.{put, nth, when}
-use Rattle.runs.specs.Steps.{Step, begin, ask, serve, hear, result, drop, transfer, share, crash}
-use Rattle.runs.specs.Calls.{Called, transferCall, shareCall, serveCall, beginCall, askCall, hearCall, resultCall, dropCall}
+use Rattle.runs.specs.Steps.{Step, begin, ask, serve, hear, hear-lent, result, drop, transfer, share, crash}
+use Rattle.runs.specs.Calls.{Called, transferCall, shareCall, serveCall, beginCall, askCall, hearCall, hearLentCall, resultCall, dropCall}
 
 -- the records of servers and desks by number, the crash marks, and the bytes of every message sent, in their order
 pub record State : Type 0 where
@@ -76,6 +76,7 @@ take c s (begin d t note) = onDesk s d (λ x. beginCall x t note)
 take c s (ask d i place out) = onDesk s d (λ x. askCall x i place out)
 take c s (serve i k place out) = when (nth (s .sent) k) (nothing s) (λ msg. onServer c s i (λ x. serveCall x msg place out))
 take c s (hear d k) = when (nth (s .sent) k) (nothing s) (λ msg. onDesk s d (λ x. hearCall x msg))
+take c s (hear-lent d k) = when (nth (s .sent) k) (nothing s) (λ msg. onDesk s d (λ x. hearLentCall x msg))
 take c s (result d) = onDesk s d (λ x. resultCall x)
 take c s (drop d) = onDesk s d (λ x. dropCall x)
 take c s (transfer i j amount) = onServer c s i (λ x. transferCall x j amount)
