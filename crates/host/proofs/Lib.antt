@@ -1,3 +1,4 @@
 -- Laws.
 pub mod Small
+pub mod Places
 pub mod Apart

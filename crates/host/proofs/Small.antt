@@ -1,7 +1,7 @@
 -- The numbers of refusals and of seats are small, so that they are signed numbers as they are.
-use Prim.Native.Nat.{ℕ, _-_, _≤_}
+use Prim.Native.Nat.{ℕ, _-_, _≤_, _<_}
 use native.Mathlib.Omega.{arith}
-use mathlib.Core.Path.{_≡_, sym}
+use mathlib.Core.Path.{_≡_, refl, sym, subst}
 use mathlib.Core.List.{List}
 use lib.ListN.{length, getD}
 use lib.Dec.{leb}
@@ -13,6 +13,7 @@ use Rattle.config.specs.Refusals.{numberOf}
 use Rattle.config.specs.declared.answer.Refusal.{Refusal}
 use Rattle.config.specs.declared.answer.Refusal.the-variants.{BadHouse, Torn, BadMap, OddField, Light, Clash, Stray, Busy, Idle, Thin, BadTransfer, Spent, Narrow, Long}
 use Rattle.config.specs.declared.answer.Number.{Number}
+use Rattle.host.specs.Codes.{Within}
 use Rattle.seats.specs.Offers.{freeIn, offered, offerAnswer}
 use Rattle.format.specs.Bytes.{bit}
 
@@ -45,3 +46,15 @@ seats-most block x e =
     let same : offered block ≡ x = cc in
     let few = sum-le (length block) (λ i. freeIn (getD block i 0)) (λ i. 8) (λ i l. free-most (getD block i 0)) in
     omega (arith, same, few, sum-const (length block) 8, leb-true (length block) 64 (t .0))
+
+-- so the seats are a signed number as they are
+pub seats-within : (block : List ℕ) → Within 9223372036854775808 (offerAnswer block)
+seats-within block = each (offerAnswer block) refl
+  where
+    each : (a : Number) → offerAnswer block ≡ a → Within 9223372036854775808 a
+    each (Number.Value x) e = omega (arith, seats-most block x e)
+    each (Number.Refused r) e = tt
+
+-- a bound on what an answer holds
+pub within-value : (bound : ℕ) (a : Number) (x : ℕ) → a ≡ Number.Value x → Within bound a → x < bound
+within-value bound a x e w = subst (Within bound) e w

@@ -1,6 +1,6 @@
 -- The numbers that a C host gets (paper 01, "Desk"): 0 for a message that passes, the weight, 1 or 0 for a quorum, the seats, or for a refusal −1,000,000
 -- less its number.
-use Prim.Native.Nat.{ℕ, _+_}
+use Prim.Native.Nat.{ℕ, _+_, _<_}
 use mathlib.Core.List.{List}
 use lib.IntN.{ℤ, pos}
 use Rattle.quorums.specs.Difference.{difference}
@@ -11,6 +11,7 @@ use Rattle.config.specs.declared.answer.Verdict.{Verdict}
 use Rattle.config.specs.declared.answer.Decision.{Decision}
 use Rattle.config.specs.declared.answer.Number.{Number}
 use Rattle.config.specs.declared.answer.Signed.{Signed}
+use Rattle.desk.specs.declared.record.Hearing.{Hearing}
 use Rattle.message.specs.Answers.{checkAnswer}
 use Rattle.reader.specs.Weighings.{weightIn, quorumIn}
 use Rattle.seats.specs.Offers.{offerAnswer}
@@ -36,6 +37,27 @@ abbrev pub decisionCode : Decision → ℤ
 decisionCode Decision.Yes = pos 1
 decisionCode Decision.No = pos 0
 decisionCode (Decision.Refused r) = refusalCode r
+
+-- 0 for a reply that was taken, 1 for one that came too late
+abbrev pub hearingCode : Hearing → ℤ
+hearingCode Hearing.Accepted = pos 0
+hearingCode Hearing.Late = pos 1
+hearingCode (Hearing.Refused r) = refusalCode r
+
+-- 0 for any number
+abbrev pub doneCode : Number → ℤ
+doneCode (Number.Value x) = pos 0
+doneCode (Number.Refused r) = refusalCode r
+
+-- the number, or `otherwise` beside a refusal
+abbrev pub placeCode : Number → ℕ → ℕ
+placeCode (Number.Value x) otherwise = x
+placeCode (Number.Refused r) otherwise = otherwise
+
+-- a number, if it is one, is below a bound
+abbrev pub Within : ℕ → Number → Type 0
+Within bound (Number.Value x) = x < bound
+Within bound (Number.Refused r) = Unit
 
 -- ---- what the calls answer
 

@@ -1,2 +1,3 @@
 -- Definitions.
 pub mod Codes
+pub mod Calls

@@ -1,10 +1,12 @@
 // The number of an answer.
 use config::Decision;
+use config::Number;
 use config::Refusal;
 use config::Signed;
 use config::Verdict;
+use desk::Hearing;
 ghost use mathlib.Core.Path.{_≡_};
-ghost use Rattle.host.specs.Codes.{refusalCode, verdictCode, signedCode, decisionCode};
+ghost use Rattle.host.specs.Codes.{refusalCode, verdictCode, signedCode, decisionCode, numberCode, Within, hearingCode, doneCode, placeCode};
 
 // −1,000,000 less the refusal's number.
 pub(crate) fn of_refusal(refusal: Refusal) -> i64
@@ -39,5 +41,47 @@ pub(crate) fn of_decision(answer: Decision) -> i64
         Decision::Yes => 1,
         Decision::No => 0,
         Decision::Refused(r) => of_refusal(r),
+    }
+}
+
+// 0 for a reply that was taken, 1 for one that came too late.
+pub(crate) fn of_hearing(answer: Hearing) -> i64
+    ensures { λ r. ⌜ r ≡ hearingCode answer ⌝ }
+{
+    match answer {
+        Hearing::Accepted => 0,
+        Hearing::Late => 1,
+        Hearing::Refused(r) => of_refusal(r),
+    }
+}
+
+// A number that fits into 64 signed bits.
+pub(crate) fn of_number(answer: Number) -> i64
+    requires { ⌜ Within 9223372036854775808 answer ⌝ }
+    ensures { λ r. ⌜ r ≡ numberCode answer ⌝ }
+{
+    match answer {
+        Number::Value(x) => x as i64,
+        Number::Refused(r) => of_refusal(r),
+    }
+}
+
+// 0 for any number.
+pub(crate) fn of_done(answer: Number) -> i64
+    ensures { λ r. ⌜ r ≡ doneCode answer ⌝ }
+{
+    match answer {
+        Number::Value(_) => 0,
+        Number::Refused(r) => of_refusal(r),
+    }
+}
+
+// The number, or another beside a refusal.
+pub(crate) fn place(answer: Number, otherwise: u64) -> u64
+    ensures { λ r. ⌜ r ≡ placeCode answer otherwise ⌝ }
+{
+    match answer {
+        Number::Value(x) => x,
+        Number::Refused(_) => otherwise,
     }
 }

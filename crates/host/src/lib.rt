@@ -1,13 +1,15 @@
-// The functions that a C host calls (paper 01, "Desk", last paragraph): message check, weight, quorum and seats on offer. Each gives a signed number:
-// what was asked for, or for a refusal −1,000,000 less its number. include/tovridsa.h declares them to C.
+// The functions that a C host calls. Here are those about messages and blocks (paper 01, "Desk", last paragraph): message check, weight, quorum and seats on
+// offer; `servers` and `desks` have the calls on records. An answer is a signed number: what was asked for, or for a refusal −1,000,000 less its number.
+// include/tovridsa.h declares all of them to C.
 mod code;
+mod desks;
+mod servers;
 
 use code::of_decision;
-use code::of_refusal;
+use code::of_number;
 use code::of_signed;
 use code::of_verdict;
 use config::Config;
-use config::Number;
 use reader::check;
 use reader::quorum;
 use reader::weight;
@@ -45,8 +47,5 @@ pub extern "C" fn tovridsa_quorum(n: u64, f: u64, map: u64, msg: &[u8]) -> i64
 pub extern "C" fn tovridsa_seats(block: &[u8]) -> i64
     ensures { λ r. ⌜ r ≡ seatsCode (now (block .entry)) ⌝ }
 {
-    match on_offer(block) {
-        Number::Value(seats) => seats as i64,
-        Number::Refused(r) => of_refusal(r),
-    }
+    of_number(on_offer(block))
 }

@@ -1,0 +1,40 @@
+-- `of_hearing` meets its contract.
+use Rattle.ledger.proofs.Answers.{read-back}
+use Rattle.host.specs.Codes.{hearingCode}
+use borrow.Author.Needs.{needs}
+use mathlib.Core.Path.{sym, ap, _∙_}
+use Rattle.host.proofs.code.of_hearing.Statement.{statement}
+use Rattle.host.proofs.code.of_hearing.Tie as tie
+
+enum-told : tie.Need-enum-told
+enum-told c = search needs
+
+enum-told-2 : tie.Need-enum-told-2
+enum-told-2 c = search needs
+
+enum-known-answer : tie.Need-enum-known-answer
+enum-known-answer c = search needs
+
+of-refusal-requires : tie.Need-of-refusal-requires
+of-refusal-requires c κs = search needs
+
+returns : tie.Need-returns
+returns c = ap hearingCode (sym (c .enum-told .given .1))
+
+returns-2 : tie.Need-returns-2
+returns-2 c = ap hearingCode (sym (c .enum-told2 .given .1))
+
+returns-3 : tie.Need-returns-3
+returns-3 c = read-back (c .of-refusal .result) (c .of-refusal .ok) ∙ c .of-refusal .ensures ∙ ap hearingCode (sym (c .before .before .answer .given .1))
+
+pub of-hearing-spec : {M : Type 1} → statement M
+of-hearing-spec =
+    tie.close
+    (tie.spec
+    enum-told
+    enum-told-2
+    enum-known-answer
+    of-refusal-requires
+    returns
+    returns-2
+    returns-3)

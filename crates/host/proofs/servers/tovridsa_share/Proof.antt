@@ -1,0 +1,28 @@
+-- `tovridsa_share` meets its contract.
+use Rattle.host.specs.Codes.{Within, numberCode}
+use Rattle.host.proofs.Places.{share-ends}
+use Rattle.ledger.proofs.Answers.{read-back}
+use borrow.Author.Needs.{needs}
+use native.Mathlib.Omega.{arith}
+use mathlib.Core.Path.{sym, ap, _∙_, subst}
+use Rattle.host.proofs.servers.tovridsa_share.Statement.{statement}
+use Rattle.host.proofs.servers.tovridsa_share.Tie as tie
+
+share-requires : tie.Need-share-requires
+share-requires c κs = search needs
+
+of-number-requires : tie.Need-of-number-requires
+of-number-requires c κs =
+    let g = c .before .before .before .before .before .good in
+    subst (Within 9223372036854775808) (sym (c .before .before .share .ensures .0)) (share-ends _ _ _ _ (omega arith) .ends)
+
+same-length : tie.Need-same-length
+same-length c = search needs
+
+returns : tie.Need-returns
+returns c =
+    let e = c .before .before .before .share .ensures in
+    (read-back (c .of-number .result) (c .of-number .ok) ∙ c .of-number .ensures ∙ ap numberCode (e .0), e .1)
+
+pub tovridsa-share-spec : {M : Type 1} → statement M
+tovridsa-share-spec = tie.close (tie.spec share-requires of-number-requires same-length returns)
