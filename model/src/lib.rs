@@ -2,8 +2,9 @@
 //! with the proved library and the proved program.
 //!
 //! Messages, weights and seats: the first group of modules is the model, the
-//! second the library behind the same four signatures, the third draws the
-//! cases on which they must agree and asks both.
+//! second the library, with the same four signatures and with all that a C host
+//! calls on servers and desks, the third draws the cases on which the four must
+//! agree and asks both.
 //!
 //! Servers and desks, in two folders:
 //! - `machine`: the plain machine of "The runs of demand 3" over sets of
@@ -13,10 +14,11 @@
 //! - `runs`: long random runs. A run is drawn (`pace`, `player`, `known`; what
 //!   happens in it: `traffic`, `work`, `weight`, `misuse`, `helper`; forged
 //!   messages: `damaged`, `forge`; `spent` is one long run to a counter's end),
-//!   played on a store (`store`, `script`, `process`), seen from outside
-//!   (`seen`), checked (`check`, `beside`, `observer`, `operations`, `still`),
-//!   counted (`tally`, `fate`, `reach`) and made short where it fails (`shrink`).
-//!   `wrong` has the wrong stores that come close.
+//!   played on a store (`store`, `script`; the program: `process`; the library:
+//!   `library`), seen from outside (`seen`), checked (`check`, `beside`,
+//!   `observer`, `operations`, `still`), counted (`tally`, `fate`, `reach`) and
+//!   made short where it fails (`shrink`). `wrong` has the wrong stores that
+//!   come close.
 //!
 //! To run the comparisons: `cd model && cargo test --release`, after
 //! `rt staticlib host` and `rt check cases`.

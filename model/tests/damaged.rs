@@ -4,93 +4,23 @@
 //! demand 3 say nothing of such runs and are not checked.
 //!
 //! TOVRIDSA_SEED, TOVRIDSA_STEPS, TOVRIDSA_FROM and TOVRIDSA_CASES as for the
-//! other runs; here a quarter of the steps is played.
+//! other runs.
 
 mod common;
+mod forged;
 
-use std::collections::BTreeMap;
-
-use common::{seed, variable};
 use model::machine::calls::Right;
 use model::machine::program::Program;
-use model::runs::beside::Beside;
-use model::runs::damaged::draw_damaged;
+use model::runs::beside::{answered, Beside};
 use model::runs::still::changed;
 use model::weights::Ledger;
 
-const STEPS: u64 = 200_000;
-
-const COUNTS_AND_CELLS: Beside = Beside {
-    model: || Box::new(Program::<Ledger, _>::new(Right)),
-    check: changed,
-};
-
-/// What forged messages must come to, and how often at least.
-const REACHED: &[(&str, u64)] = &[
-    ("serve: accepted", 500),
-    ("serve: no 2", 50),
-    ("serve: no 3", 50),
-    ("serve: no 4", 50),
-    ("serve: no 5", 50),
-    ("serve: no 6", 200),
-    ("serve: no 7", 100),
-    ("serve: no 13", 100),
-    ("hear: accepted", 500),
-    ("hear: late", 200),
-    ("hear: no 2", 50),
-    ("hear: no 3", 50),
-    ("hear: no 4", 50),
-    ("hear: no 5", 50),
-    ("hear: no 6", 200),
-    ("hear: no 7", 100),
-    ("hear: no 12", 50),
-    ("serve: no 6: the server's own row is ahead", 5),
-    ("serve: no 6: a row of the same count has another cell", 5),
-    ("serve: no 6: a later row has a smaller cell", 5),
-    ("serve: no 6: an earlier row has a larger cell", 5),
-    ("serve: no 6: an equal tag with another value", 5),
-    ("serve: accepted: a row is behind", 5),
-    ("serve: accepted: a row is ahead", 5),
-    ("hear: no 6: a row is behind", 5),
-    ("hear: no 6: a row of the same count has another cell", 5),
-    ("hear: no 6: a later row has a smaller cell", 5),
-    ("hear: no 6: an equal tag with another value", 5),
-    ("hear: accepted: a row is ahead", 5),
-    ("hear: no 12: a stamp at its end", 1),
-];
-
 #[test]
 fn program_and_model_agree_on_damaged_messages() {
-    let seed = seed();
-    let from = variable("TOVRIDSA_FROM", 0);
-    let least = variable("TOVRIDSA_STEPS", STEPS) / 4;
-    println!("seed {seed}, {least} steps from run {from} on");
-    let mut counts: BTreeMap<String, u64> = BTreeMap::new();
-    let (mut number, mut steps) = (from, 0);
-    while steps < least {
-        let mut count = |words: String| {
-            let answered = words.splitn(3, ": ").take(2).collect::<Vec<_>>().join(": ");
-            *counts.entry(answered).or_default() += 1;
-            *counts.entry(words).or_default() += 1;
-        };
-        let mut model = (COUNTS_AND_CELLS.model)();
-        let run = draw_damaged(seed, number, model.as_mut(), &mut count);
-        COUNTS_AND_CELLS
-            .compare(&run.entries, &run.turns, number)
-            .unwrap_or_else(|report| panic!("seed {seed}, damaged run {number}: {report}"));
-        steps += run.steps;
-        number += 1;
-    }
-    println!("{} runs, {steps} steps", number - from);
-    for (words, times) in &counts {
-        println!("{times:>9}  {words}");
-    }
-    if least < STEPS / 4 {
-        println!("fewer than {STEPS} steps: the counts are not asserted");
-        return;
-    }
-    for &(words, least) in REACHED {
-        let times = counts.get(words).copied().unwrap_or(0);
-        assert!(times >= least, "{times} times is too seldom: {words}");
-    }
+    let beside = Beside {
+        model: || Box::new(Program::<Ledger, _>::new(Right)),
+        answered,
+        check: changed,
+    };
+    forged::agree(&beside, |run| run);
 }

@@ -15,6 +15,7 @@ use super::server::Room;
 use super::sheet::{Handed, Sheet};
 use super::vector::vector;
 use crate::answers;
+use crate::calls::{self as host, MODEL};
 use crate::weights::Config;
 
 /// The program's bounds.
@@ -68,7 +69,7 @@ pub struct Program<S, C> {
 }
 
 /// An answer that ends the work on a line early.
-type Step<T> = Result<T, Answer>;
+pub type Step<T> = Result<T, Answer>;
 
 impl From<No> for Answer {
     fn from(no: No) -> Answer {
@@ -87,27 +88,10 @@ impl<S: Sheet, C: Calls<S>> Program<S, C> {
 
     /// The answer to a line, given as text and as the command that it is.
     pub fn answer(&mut self, text: &str, command: &Command<Handed>) -> Option<Answer> {
-        if text.len() > LONGEST_LINE {
-            return Some(Answer::Bounds);
-        }
-        if let Command::Text(text) = command {
-            return match parse(text) {
-                Err(_) => Some(Answer::What),
-                Ok(None) => None,
-                Ok(Some(command)) => {
-                    let command = command.with_message(|bytes| {
-                        let bytes = bytes.clone();
-                        Some(Handed { place: None, bytes })
-                    });
-                    command.map(|command| self.obey(&command).unwrap_or_else(|early| early))
-                }
-            };
-        }
-        Some(self.obey(command).unwrap_or_else(|early| early))
+        answer(text, command, |command| self.obey(command))
     }
 
     fn obey(&mut self, command: &Command<Handed>) -> Step<Answer> {
-        check_bounds(command)?;
         match command {
             &Command::House { n, f } => {
                 let config = Config::new(n, f).map_err(|_| No::BAD_HOUSE)?;
@@ -186,36 +170,11 @@ impl<S: Sheet, C: Calls<S>> Program<S, C> {
                 let config = cluster.config;
                 Ok(Answer::Words(desk_line(config, cluster.desk(desk))))
             }
-            _ => Ok(self.of_message(command)),
+            _ => {
+                let config = self.cluster.as_ref().map(|cluster| cluster.config);
+                Ok(of_message(config, &MODEL, command))
+            }
         }
-    }
-
-    /// The commands that need no record. Before a house n and f are 0.
-    fn of_message(&self, command: &Command<Handed>) -> Answer {
-        let config = self.cluster.as_ref().map(|cluster| cluster.config);
-        let (n, f) = config.map_or((0, 0), |config| (config.n() as u64, config.f() as u64));
-        let number = match command {
-            Command::Check { bytes } => answers::check(n, f, bytes),
-            Command::Weight { server, bytes } => answers::weight(n, f, *server, bytes),
-            Command::Quorum { map, bytes } => answers::quorum(n, f, *map, bytes),
-            Command::Seats { bytes } => answers::seats(bytes),
-            Command::Named { map } => match config {
-                Some(config) if config.names_servers((*map).into()) => map.count_ones().into(),
-                _ => return Answer::Refused(No::BAD_HOUSE),
-            },
-            Command::Value { bytes } => {
-                let register = match answers::open(n, f, bytes) {
-                    Ok((_, message)) => message.register,
-                    Err(_) => None,
-                };
-                return Answer::Words(hex(register.map_or(&[], |register| register.value)));
-            }
-            Command::Message { n, f, bytes } => {
-                return vector(*n, *f, bytes).map_or_else(Answer::Refused, Answer::Words)
-            }
-            _ => return Answer::What,
-        };
-        Answer::Words(number.to_string())
     }
 
     /// The cluster, or `no 1` before a house.
@@ -267,6 +226,62 @@ impl<S: Sheet, C: Calls<S>> Program<S, C> {
             bytes,
         }
     }
+}
+
+/// The answer to a line, given as text and as the command that it is: `obey` is
+/// given the command if it can be read and is within the program's bounds.
+pub fn answer(
+    text: &str,
+    command: &Command<Handed>,
+    obey: impl FnOnce(&Command<Handed>) -> Step<Answer>,
+) -> Option<Answer> {
+    if text.len() > LONGEST_LINE {
+        return Some(Answer::Bounds);
+    }
+    let within_bounds = |command: &Command<Handed>| {
+        check_bounds(command)?;
+        obey(command)
+    };
+    let answer = match command {
+        Command::Text(text) => match parse(text) {
+            Err(_) => Err(Answer::What),
+            Ok(None) => return None,
+            Ok(Some(command)) => within_bounds(&command.with_message(|bytes| {
+                let bytes = bytes.clone();
+                Some(Handed { place: None, bytes })
+            })?),
+        },
+        _ => within_bounds(command),
+    };
+    Some(answer.unwrap_or_else(|early| early))
+}
+
+/// The commands that need no record. Before a house n and f are 0. Those that a
+/// C host has are answered by its calls.
+pub fn of_message(config: Option<Config>, host: &host::Calls, command: &Command<Handed>) -> Answer {
+    let (n, f) = config.map_or((0, 0), |config| (config.n() as u64, config.f() as u64));
+    let number = match command {
+        Command::Check { bytes } => (host.check)(n, f, bytes),
+        Command::Weight { server, bytes } => (host.weight)(n, f, *server, bytes),
+        Command::Quorum { map, bytes } => (host.quorum)(n, f, *map, bytes),
+        Command::Seats { bytes } => (host.seats)(bytes),
+        Command::Named { map } => match config {
+            Some(config) if config.names_servers((*map).into()) => map.count_ones().into(),
+            _ => return Answer::Refused(No::BAD_HOUSE),
+        },
+        Command::Value { bytes } => {
+            let register = match answers::open(n, f, bytes) {
+                Ok((_, message)) => message.register,
+                Err(_) => None,
+            };
+            return Answer::Words(hex(register.map_or(&[], |register| register.value)));
+        }
+        Command::Message { n, f, bytes } => {
+            return vector(*n, *f, bytes).map_or_else(Answer::Refused, Answer::Words)
+        }
+        _ => return Answer::What,
+    };
+    Answer::Words(number.to_string())
 }
 
 /// LEN and HEX within the program's bounds.

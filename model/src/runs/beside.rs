@@ -1,6 +1,6 @@
-//! The compiled program beside a model: the same lines to both, every answer
-//! compared, then a check on the program's answers alone. A run that fails is
-//! given again and again to fresh processes to make it short.
+//! The compiled program, or the library, beside a model: the same lines to both,
+//! every answer compared, then a check on the store's answers alone. A run that
+//! fails is given again and again to fresh stores to make it short.
 
 use super::check::difference;
 use super::observer::{Clause, Found};
@@ -12,14 +12,16 @@ use super::store::Store;
 /// One run in so many is a conversation, line by line.
 const CONVERSATIONS: u64 = 16;
 
-/// A model, and what is checked besides the equality.
+/// A model, how a store answers the same lines in a run of this number, and what
+/// is checked besides the equality.
 pub struct Beside {
     pub model: fn() -> Box<dyn Store>,
+    pub answered: fn(&[Turn], u64) -> Vec<Turn>,
     pub check: fn(&[Turn]) -> Option<Found>,
 }
 
 impl Beside {
-    /// The program's turns on the lines of a run that the model played, or a
+    /// The store's turns on the lines of a run that the model played, or a
     /// report with a short script. The run's number says how the lines are
     /// given.
     pub fn compare(
@@ -28,7 +30,7 @@ impl Beside {
         expected: &[Turn],
         number: u64,
     ) -> Result<Vec<Turn>, String> {
-        let turns = answered(expected, number);
+        let turns = (self.answered)(expected, number);
         match self.failure(expected, &turns) {
             None => Ok(turns),
             Some(_) => Err(self.report(entries, number)),
@@ -54,7 +56,7 @@ impl Beside {
     fn report(&self, entries: &[Entry], number: u64) -> String {
         let play = |script: &[Entry], number: u64| {
             let expected = replay(script, (self.model)().as_mut());
-            let turns = answered(&expected, number);
+            let turns = (self.answered)(&expected, number);
             let found = self.failure(&expected, &turns);
             (turns, found)
         };

@@ -76,10 +76,7 @@ impl Player<'_> {
             2 => (other, 0),
             3 => (other, spare + 1),
             4 => (other, spare + self.random.within(1, 100_000)),
-            _ => {
-                let far = self.far(1 << 16);
-                (other, far)
-            }
+            _ => (other, self.far(spare + 1)),
         };
         self.give(Command::Transfer {
             giver,
@@ -88,12 +85,13 @@ impl Player<'_> {
         });
     }
 
-    /// A number from a least one on, often that one, often far beyond.
+    /// A number from a least one on: often that one, often far beyond, and often
+    /// one of which the low bits alone would be below it.
     fn far(&mut self, least: u64) -> u64 {
         match self.random.below(4) {
             0 => least,
             1 => least + self.random.below(40),
-            2 => least + (1 << self.random.within(8, 62)),
+            2 => least.max((1 << self.random.within(8, 62)) + self.random.below(least)),
             _ => u64::MAX - self.random.below(3),
         }
     }
@@ -170,16 +168,19 @@ impl Player<'_> {
         }
     }
 
-    /// The call with a short buffer, then with room, and then, when the
-    /// message's length is known, at its edge.
+    /// The call with a short buffer or a place past the end, then with room, and
+    /// then, when the message's length is known, at its edge.
     fn try_rooms(&mut self, call: impl Fn(Room) -> Command<Source>) {
         let len = self.random.below(10);
-        let at = match self.random.below(3) {
-            0 => 0,
-            1 => len + 1,
-            _ => self.far(len),
+        let room = match self.random.below(3) {
+            0 => Room { at: 0, len },
+            1 => Room { at: len + 1, len },
+            _ => Room {
+                at: self.far(ROOMY.len),
+                ..ROOMY
+            },
         };
-        self.give(call(Room { at, len }));
+        self.give(call(room));
         let (_, post) = self.give(call(ROOMY));
         let Some(post) = post else { return };
         let length = post.length as u64;

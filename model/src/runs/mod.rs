@@ -15,6 +15,7 @@ pub mod fate;
 pub mod forge;
 pub mod helper;
 pub mod known;
+pub mod library;
 pub mod misuse;
 pub mod observer;
 pub mod operations;

@@ -3,7 +3,7 @@
 
 use super::known::{Known, Post};
 use super::pace::Pace;
-use super::script::{Entry, Source, Stage, Turn};
+use super::script::{replay, with_records, Entry, Source, Stage, Turn};
 use super::seen::refused;
 use super::store::Store;
 use crate::machine::command::Command;
@@ -20,6 +20,20 @@ pub struct Run {
     pub turns: Vec<Turn>,
     /// The steps of the store among them.
     pub steps: u64,
+}
+
+impl Run {
+    /// The same run, as a store plays it, with the record of its party shown
+    /// after every line.
+    pub fn with_records(&self, store: &mut dyn Store) -> Run {
+        let entries = with_records(&self.entries);
+        let turns = replay(&entries, store);
+        Run {
+            entries,
+            turns,
+            steps: self.steps,
+        }
+    }
 }
 
 pub struct Player<'a> {

@@ -135,3 +135,32 @@ pub fn replay(entries: &[Entry], store: &mut dyn Store) -> Vec<Turn> {
         .filter_map(|entry| stage.play(entry))
         .collect()
 }
+
+/// The same script with the record of its party shown after every line. The
+/// lines have twice their numbers, and those that are put in the odd ones.
+pub fn with_records(entries: &[Entry]) -> Vec<Entry> {
+    let doubled = |source: &Source| match source {
+        Source::Line(number) => Some(Source::Line(2 * number)),
+        Source::Bytes(bytes) => Some(Source::Bytes(bytes.clone())),
+    };
+    let mut script = Vec::new();
+    for entry in entries {
+        let number = 2 * entry.number;
+        let server = entry.command.server();
+        let server = server.map(|server| Command::RecordServer { server });
+        let desk = entry.command.desk();
+        let desk = desk.map(|desk| Command::RecordDesk { desk });
+        let command = entry.command.with_message(doubled);
+        script.push(Entry {
+            number,
+            command: command.expect("every message has a name"),
+            dress: entry.dress,
+        });
+        script.extend(server.or(desk).map(|command| Entry {
+            number: number + 1,
+            command,
+            dress: 0,
+        }));
+    }
+    script
+}

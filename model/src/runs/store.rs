@@ -1,4 +1,5 @@
-//! What a run drives: the compiled program, the plain machine or a wrong store.
+//! What a run drives: the compiled program, the library, the plain machine or a
+//! wrong store.
 
 use crate::machine::calls::Calls;
 use crate::machine::command::Command;

@@ -1,6 +1,12 @@
-//! The same four answers by the proved library, `libhost.a`: paper 01, the last
-//! paragraph of "Desk". The functions have no precondition but a pointer that
-//! is valid for its length, so every slice is fine and the wrappers are safe.
+//! The proved library, `libhost.a`, as include/tovridsa.h declares it. Here are
+//! the answers about messages and blocks, the same four as in `answers`: paper
+//! 01, the last paragraph of "Desk". `records` has what a host keeps, `servers`
+//! and `desks` the calls on it. The functions have no precondition but pointers
+//! that are valid, so every slice is fine and the wrappers are safe.
+
+pub mod desks;
+pub mod records;
+pub mod servers;
 
 extern "C" {
     fn tovridsa_check(n: u64, f: u64, msg: *const u8, len: usize) -> i64;
@@ -35,4 +41,21 @@ pub fn seats(block: &[u8]) -> i64 {
     // SAFETY: as in `check`, with the block for the message; a block that is
     // too long is refused by the function.
     unsafe { tovridsa_seats(block.as_ptr(), block.len()) }
+}
+
+/// The pointer to a slice's bytes. Of an empty slice it is null, which a host
+/// may pass beside the length 0.
+fn start(bytes: &[u8]) -> *const u8 {
+    match bytes {
+        [] => std::ptr::null(),
+        _ => bytes.as_ptr(),
+    }
+}
+
+/// The same for bytes that may be written.
+fn start_mut(bytes: &mut [u8]) -> *mut u8 {
+    match bytes {
+        [] => std::ptr::null_mut(),
+        _ => bytes.as_mut_ptr(),
+    }
 }

@@ -1,0 +1,143 @@
+//! The library for C hosts in the same long random runs as the program `cases`,
+//! by its functions for servers and desks: every answer, every byte and, after
+//! every line, the whole record of the party that it names are the model's; a
+//! call that is refused or late leaves records and buffers as they were; and
+//! hear is called by value and on a record that is lent. The clauses of demand
+//! 3 are checked on what the library answered.
+//!
+//! TOVRIDSA_SEED, TOVRIDSA_STEPS and TOVRIDSA_FROM as for the other runs; no
+//! program is needed.
+//! `cargo test --release --test library -- --nocapture` shows the counts.
+
+mod common;
+mod drawn;
+mod forged;
+
+use std::fs::read_to_string;
+use std::path::Path;
+
+use model::answers::refusal;
+use model::machine::calls::Right;
+use model::machine::command::Command;
+use model::machine::program::Program;
+use model::machine::transfers::Transfers;
+use model::proved::records::{Desk, DeskAnswer, Server, ServerAnswer};
+use model::proved::{desks, servers};
+use model::runs::beside::Beside;
+use model::runs::library::{answered, Library};
+use model::runs::script::replay;
+use model::runs::spent::spent;
+use model::runs::still::changed;
+use model::runs::store::Store;
+use model::weights::Ledger;
+
+type PlainMachine = Program<Transfers, Right>;
+type CountsAndCells = Program<Ledger, Right>;
+
+#[test]
+fn library_and_machine_agree() {
+    let beside = Beside {
+        model: || Box::new(PlainMachine::new(Right)),
+        answered: |turns, _| answered(turns),
+        check: drawn::check,
+    };
+    drawn::agree(&beside, |run| {
+        run.with_records(&mut PlainMachine::new(Right))
+    });
+}
+
+#[test]
+fn library_and_model_agree_on_damaged_messages() {
+    let beside = Beside {
+        model: || Box::new(CountsAndCells::new(Right)),
+        answered: |turns, _| answered(turns),
+        check: changed,
+    };
+    forged::agree(&beside, |run| {
+        run.with_records(&mut CountsAndCells::new(Right))
+    });
+}
+
+/// The long run to the end of a server's count, beside the model over counts
+/// and cells.
+#[test]
+fn a_server_that_gave_65535_times_is_spent() {
+    let expected = replay(&spent(), &mut CountsAndCells::new(Right));
+    let turns = answered(&expected);
+    for (expected, turn) in expected.iter().zip(&turns) {
+        let line = (turn.number, &turn.text);
+        assert_eq!(expected.answer, turn.answer, "{line:?}");
+    }
+    let spent = turns.iter().filter(|turn| turn.answer() == "no 12");
+    assert_eq!(spent.count(), 2);
+    println!("{} lines", turns.len());
+}
+
+/// Paper 01 as a script, answered as the program does.
+#[test]
+fn the_library_answers_the_papers_script() {
+    let folder = Path::new(env!("CARGO_MANIFEST_DIR")).join("../crates/cases");
+    let file = |name| read_to_string(folder.join(name)).expect("the file can be read");
+    let (script, stored) = (file("stdin"), file("stdout"));
+    let mut library = Library::default();
+    let mut expected = stored.lines();
+    let mut lines = 0;
+    for line in script.lines() {
+        if let Some(answer) = library.answer(line, &Command::Text(line.to_string())) {
+            assert_eq!(Some(answer.as_str()), expected.next(), "{line}");
+            lines += 1;
+        }
+    }
+    assert_eq!(expected.next(), None, "answers to no line");
+    println!("{lines} lines");
+}
+
+/// The numbers that a house and its parties cannot have, and a record that no
+/// call accepts.
+#[test]
+fn a_refused_open_hands_back_a_record_that_no_call_accepts() {
+    let bad_house = refusal(1);
+    let huge = u64::MAX;
+    for (n, f, server, desk) in [
+        (0, 0, 0, 1),
+        (17, 0, 0, 1),
+        (1, 1, 0, 1),
+        (16, 8, 0, 1),
+        (5, huge, 0, 1),
+        (huge, 0, 0, 1),
+        (3, 1, 3, 0),
+        (3, 1, 1 << 32, 65_536),
+        (3, 1, huge, huge),
+    ] {
+        let opened = servers::open(n, f, server);
+        assert_eq!((opened.answer, opened.server), (bad_house, Server::NONE));
+        let opened = desks::open(n, f, desk);
+        assert_eq!((opened.answer, opened.desk), (bad_house, Desk::NONE));
+    }
+
+    let server = Server::NONE;
+    let refused = ServerAnswer {
+        answer: bad_house,
+        server,
+    };
+    assert_eq!(servers::transfer(server, 1, 1), refused);
+    assert_eq!(servers::share(server, &mut [], 0), bad_house);
+    let served = servers::serve(server, &[], &mut [], 7);
+    assert_eq!((served.answer, served.end), (bad_house, 7));
+    assert_eq!(served.server, server);
+
+    let desk = Desk::NONE;
+    let refused = DeskAnswer {
+        answer: bad_house,
+        desk,
+    };
+    assert_eq!(desks::begin_read(desk, 0), refused);
+    assert_eq!(desks::begin_write(desk, 0, &[]), refused);
+    assert_eq!(desks::ask(desk, 0, &mut [], 0), bad_house);
+    assert_eq!(desks::hear(desk, &[]), refused);
+    let mut lent = desk;
+    assert_eq!(desks::hear_lent(&mut lent, &[]), bad_house);
+    assert_eq!(lent, desk);
+    assert_eq!(desks::result(desk).answer, bad_house);
+    assert_eq!(desks::drop(desk), refused);
+}
