@@ -1,4 +1,4 @@
-//! Compiles plain.c, links it, and leaves the compilers' names and flags for the report.
+//! Compiles the C, links it, and leaves the compilers' names and flags for the report.
 
 use std::env;
 use std::path::Path;
@@ -6,25 +6,40 @@ use std::process::Command;
 
 const FLAGS: [&str; 6] = ["-O3", "-std=c11", "-fPIE", "-Wall", "-Wextra", "-Werror"];
 
+/// Each is compiled to an object of its own, so that no call of one is inlined into another.
+const SOURCES: [&str; 3] = ["plain", "store", "core"];
+
+const HEADERS: [&str; 4] = ["plain.h", "read.h", "store.h", "../include/tovridsa.h"];
+
 fn main() {
-    println!("cargo:rerun-if-changed=plain.c");
-    println!("cargo:rerun-if-changed=plain.h");
+    for header in HEADERS {
+        println!("cargo:rerun-if-changed={header}");
+    }
     println!("cargo:rerun-if-env-changed=CC");
     println!("cargo:rerun-if-env-changed=AR");
 
     let out = env::var("OUT_DIR").expect("cargo sets OUT_DIR");
     let cc = env::var("CC").unwrap_or_else(|_| "gcc".to_string());
     let ar = env::var("AR").unwrap_or_else(|_| "ar".to_string());
-    let object = Path::new(&out).join("plain.o");
     let archive = Path::new(&out).join("libplain.a");
 
-    run(Command::new(&cc)
-        .args(FLAGS)
-        .args(["-c", "plain.c", "-o"])
-        .arg(&object));
-    run(Command::new(&ar).arg("crs").arg(&archive).arg(&object));
+    let mut packed = Command::new(&ar);
+    packed.arg("crs").arg(&archive);
+    for name in SOURCES {
+        let source = format!("{name}.c");
+        let object = Path::new(&out).join(format!("{name}.o"));
+        println!("cargo:rerun-if-changed={source}");
+        run(Command::new(&cc)
+            .args(FLAGS)
+            .args(["-c", &source, "-o"])
+            .arg(&object));
+        packed.arg(object);
+    }
+    run(&mut packed);
     println!("cargo:rustc-link-search=native={out}");
     println!("cargo:rustc-link-lib=static=plain");
+    // core.c calls the library, which the model links: it is named again, after the C, so that a linker that looks at each archive once finds it.
+    println!("cargo:rustc-link-lib=static:-bundle=host");
 
     let rustc = env::var("RUSTC").expect("cargo sets RUSTC");
     println!("cargo:rustc-env=BENCH_CC={}", version(&cc));

@@ -1,5 +1,6 @@
 //! The report, in GitHub's markdown.
 
+use crate::cases::Group;
 use crate::stats::Spread;
 use crate::timing::{Times, BATCH};
 use std::fs;
@@ -7,7 +8,8 @@ use std::process::Command;
 
 /// What a case's times come to.
 pub struct Line {
-    name: &'static str,
+    name: String,
+    group: Group,
     bytes: usize,
     rounds: usize,
     core: Spread,
@@ -18,13 +20,14 @@ pub struct Line {
 }
 
 impl Line {
-    pub fn of(name: &'static str, bytes: usize, times: Times) -> Line {
+    pub fn of(name: &str, group: Group, bytes: usize, times: Times) -> Line {
         let core_to_model = Spread::of_ratios(&times[0], &times[1]);
         let core_to_plain = Spread::of_ratios(&times[0], &times[2]);
         let rounds = times[0].len();
         let [core, model, plain] = times.map(Spread::of);
         Line {
-            name,
+            name: name.to_string(),
+            group,
             bytes,
             rounds,
             core,
@@ -38,26 +41,60 @@ impl Line {
 
 pub fn print(lines: &[Line]) {
     println!("Processor: {}. Compilers: {}.", processor(), compilers());
-    println!();
-    println!("Nanoseconds per call: the median of the batches, and in brackets their 10th and 90th percentile.");
-    println!();
+    for (group, heading, unit) in [
+        (Group::Message, "Questions about messages", NANOSECONDS),
+        (Group::Record, "Calls on servers and desks", NANOSECONDS),
+        (Group::Operation, "Whole operations", PER_SECOND),
+    ] {
+        let lines: Vec<&Line> = lines.iter().filter(|line| line.group == group).collect();
+        if !lines.is_empty() {
+            println!("\n### {heading}\n\n{unit}\n");
+            print_times(group, &lines);
+            println!("\n{RATIOS}\n");
+            print_ratios(&lines);
+        }
+    }
+    let fewest = lines.iter().map(|line| line.rounds).min().unwrap_or(0);
+    println!(
+        "\nEach line had at least {fewest} rounds. A round is one batch of calls to the core, then one to the model, then one \
+         to the C, each of {} to {} microseconds or of one operation that takes longer, in one process and on the same bytes, \
+         each through a function pointer. Inputs are warm in the cache, and nothing is cleared between calls; the same call is \
+         made again and again, so that the processor guesses its branches well. Before the timing the three gave the same \
+         answer on each input.",
+        BATCH.as_micros(),
+        2 * BATCH.as_micros()
+    );
+}
+
+const NANOSECONDS: &str = "Nanoseconds per call: the median of the batches, and in brackets their 10th and 90th percentile.";
+
+const PER_SECOND: &str =
+    "Operations per second: by the median of the batches, and in brackets by their 90th and 10th percentile.";
+
+const RATIOS: &str = "How many times as long the core takes: the ratio of the medians; then the median of the ratios of \
+                      single rounds, and in brackets their 10th and 90th percentile.";
+
+fn print_times(group: Group, lines: &[&Line]) {
+    if group == Group::Operation {
+        println!("| operation | core | Rust model | plain C |");
+        println!("|---|--:|--:|--:|");
+        for line in lines {
+            let [core, model, plain] = [line.core, line.model, line.plain].map(per_second);
+            println!("| {} | {core} | {model} | {plain} |", line.name);
+        }
+        return;
+    }
     println!("| call | bytes | core | Rust model | plain C |");
     println!("|---|--:|--:|--:|--:|");
     for line in lines {
-        let (core, model, plain) = (
-            nanoseconds(line.core),
-            nanoseconds(line.model),
-            nanoseconds(line.plain),
-        );
-        println!(
-            "| {} | {} | {core} | {model} | {plain} |",
-            line.name, line.bytes
-        );
+        let [core, model, plain] = [line.core, line.model, line.plain].map(nanoseconds);
+        let (name, bytes) = (&line.name, line.bytes);
+        println!("| {name} | {bytes} | {core} | {model} | {plain} |");
     }
-    println!();
-    println!("How many times as long the core takes: the ratio of the medians; then the median of the ratios of single rounds, and in brackets their 10th and 90th percentile.");
-    println!();
-    println!("| call | core / model | by rounds | core / C | by rounds |");
+}
+
+fn print_ratios(lines: &[&Line]) {
+    println!("| | core / model | by rounds | core / C | by rounds |");
     println!("|---|--:|--:|--:|--:|");
     for line in lines {
         let to_model = line.core.median / line.model.median;
@@ -68,16 +105,16 @@ pub fn print(lines: &[Line]) {
             line.name
         );
     }
-    println!();
-    let fewest = lines.iter().map(|line| line.rounds).min().unwrap_or(0);
-    println!(
-        "Each call had at least {fewest} rounds. A round is one batch of calls to the core, then one to the model, then one \
-         to the C, each of {} to {} microseconds, in one process and on the same bytes, each through a function pointer. \
-         Inputs are warm in the cache, and nothing is cleared between calls; the same call is made again and again, so that \
-         the processor guesses its branches well. Before the timing the three gave the same answer on each input.",
-        BATCH.as_micros(),
-        2 * BATCH.as_micros()
-    );
+}
+
+fn per_second(spread: Spread) -> String {
+    let rate = |nanoseconds: f64| 1e9 / nanoseconds;
+    format!(
+        "{:.0} ({:.0} to {:.0})",
+        rate(spread.median),
+        rate(spread.high),
+        rate(spread.low)
+    )
 }
 
 fn nanoseconds(spread: Spread) -> String {
