@@ -14,6 +14,7 @@ use Rattle.quorums.proofs.Tests.{ltb-same, leb-not, both, chosen-first, chosen-
 use Rattle.quorums.proofs.Differences.{pos-difference, difference-down}
 use Rattle.quorums.proofs.Weights.{above-is}
 use Rattle.config.specs.declared.cluster.Config.{Config}
+use Rattle.config.specs.Refusals.{refusal}
 use Rattle.config.specs.declared.answer.Refusal.{Refusal}
 use Rattle.config.specs.declared.answer.Number.{Number}
 use Rattle.config.specs.Cluster.{validOf, serverOf, startOf, totalOf, aboveOf, leastOf, startAnswer, totalAnswer, leastAnswer}
@@ -112,10 +113,10 @@ start-above c i v =
 pub value-not-refused : (x : ℕ) (r : Refusal) → Number.Value x ≡ Number.Refused r → ⊥
 value-not-refused x r e = let z : _≡_ {A = ℕ} 0 1 = cc in omega arith
 
-told-value : (b : Bool) (x y : ℕ) → cond b (Number.Value x) (Number.Refused Refusal.BadHouse) ≡ Number.Value y → (b ≡ true) × (y ≡ x)
+told-value : (b : Bool) (x y : ℕ) → cond b (Number.Value x) (Number.Refused (refusal 1)) ≡ Number.Value y → (b ≡ true) × (y ≡ x)
 told-value b x y e = let t = chosen-first b _ _ _ (λ d. value-not-refused _ _ (sym d)) e in (t .0, cc)
 
-told-refused : (b : Bool) (x : ℕ) (r : Refusal) → cond b (Number.Value x) (Number.Refused Refusal.BadHouse) ≡ Number.Refused r → b ≡ false
+told-refused : (b : Bool) (x : ℕ) (r : Refusal) → cond b (Number.Value x) (Number.Refused (refusal 1)) ≡ Number.Refused r → b ≡ false
 told-refused b x r e = chosen-second b _ _ _ (value-not-refused _ _) e
 
 -- what an answer with a value tells, and one that refuses

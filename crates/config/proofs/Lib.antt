@@ -1,2 +1,3 @@
--- Laws of the cluster, for use above.
+-- Laws of the refusals and of the cluster, for use above.
+pub mod Refusals
 pub mod Clusters

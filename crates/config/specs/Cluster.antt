@@ -6,7 +6,7 @@ use lib.IntN.{ℤ}
 use Rattle.quorums.specs.Sum.{sum}
 use Rattle.quorums.specs.Accounts.{above}
 use Rattle.config.specs.declared.cluster.Config.{Config}
-use Rattle.config.specs.declared.answer.Refusal.{Refusal}
+use Rattle.config.specs.Refusals.{refusal}
 use Rattle.config.specs.declared.answer.Number.{Number}
 use Rattle.config.specs.declared.answer.Decision.{Decision}
 
@@ -55,13 +55,13 @@ decide true = Decision.Yes
 decide false = Decision.No
 
 unfoldable pub startAnswer : Config → ℕ → Number
-startAnswer c i = cond (serverOf c i) (Number.Value (startOf c i)) (Number.Refused Refusal.BadHouse)
+startAnswer c i = cond (serverOf c i) (Number.Value (startOf c i)) (Number.Refused (refusal 1))
 
 unfoldable pub totalAnswer : Config → Number
-totalAnswer c = cond (validOf c) (Number.Value (totalOf c)) (Number.Refused Refusal.BadHouse)
+totalAnswer c = cond (validOf c) (Number.Value (totalOf c)) (Number.Refused (refusal 1))
 
 unfoldable pub leastAnswer : Config → Number
-leastAnswer c = cond (validOf c) (Number.Value (leastOf c)) (Number.Refused Refusal.BadHouse)
+leastAnswer c = cond (validOf c) (Number.Value (leastOf c)) (Number.Refused (refusal 1))
 
 unfoldable pub aboveAnswer : Config → ℤ → Decision
-aboveAnswer c w = cond (validOf c) (decide (aboveOf c w)) (Decision.Refused Refusal.BadHouse)
+aboveAnswer c w = cond (validOf c) (decide (aboveOf c w)) (Decision.Refused (refusal 1))

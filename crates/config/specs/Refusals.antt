@@ -1,5 +1,7 @@
--- The number of each refusal (paper 01, "Numbers handed out"), and what is done after a verdict.
-use Prim.Native.Nat.{ℕ}
+-- The number of each refusal (paper 01, "Numbers handed out"), the refusal of each number, and what is done after a verdict.
+use Prim.Native.Nat.{ℕ, _-_}
+use mathlib.Core.List.{List, [], _∷_}
+use lib.ListN.{getD}
 use Rattle.config.specs.declared.answer.Refusal.{Refusal}
 use Rattle.config.specs.declared.answer.Verdict.{Verdict}
 use Rattle.config.specs.declared.answer.Verdict.the-variants.{Accepted, Refused}
@@ -20,6 +22,19 @@ numberOf BadTransfer = 11
 numberOf Spent = 12
 numberOf Narrow = 13
 numberOf Long = 14
+
+-- the refusals in the order of their numbers, the first of which is 1
+abbrev pub refusals : List Refusal
+refusals =
+    BadHouse ∷ Torn ∷ BadMap ∷ OddField ∷ Light ∷ Clash ∷ Stray ∷ Busy ∷ Idle ∷ Thin ∷ BadTransfer ∷ Spent ∷ Narrow ∷ Long ∷ []
+
+-- the largest number
+abbrev pub mostRefusal : ℕ
+mostRefusal = 14
+
+-- The refusal of a number from 1 to the largest. Definitions name a refusal by its number; 0, and what is above the largest, has none of its own.
+abbrev pub refusal : ℕ → Refusal
+refusal k = getD refusals (k - 1) BadHouse
 
 -- what is done where a call was accepted, and for a refusal
 abbrev pub by-verdict : {A : Type 0} → Verdict → A → (Refusal → A) → A

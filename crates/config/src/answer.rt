@@ -1,6 +1,6 @@
 // Answers: the refusals of paper 01, "Numbers handed out", and the forms of answer that hold one.
 ghost use mathlib.Core.Path.{_≡_};
-ghost use Rattle.config.specs.Refusals.{numberOf};
+ghost use Rattle.config.specs.Refusals.{numberOf, refusal};
 
 // Why a call refuses. `numberOf` gives paper 01's number for each.
 pub enum Refusal {
@@ -19,6 +19,26 @@ pub enum Refusal {
     Narrow,
     Long,
 }
+
+// The largest number, and the refusals in the order of their numbers.
+const MOST_REFUSAL: u64 = 14;
+
+const REFUSALS: [Refusal; 14] = [
+    Refusal::BadHouse,
+    Refusal::Torn,
+    Refusal::BadMap,
+    Refusal::OddField,
+    Refusal::Light,
+    Refusal::Clash,
+    Refusal::Stray,
+    Refusal::Busy,
+    Refusal::Idle,
+    Refusal::Thin,
+    Refusal::BadTransfer,
+    Refusal::Spent,
+    Refusal::Narrow,
+    Refusal::Long,
+];
 
 impl Refusal {
     pub fn number(self) -> u64
@@ -40,6 +60,20 @@ impl Refusal {
             Refusal::Narrow => 13,
             Refusal::Long => 14,
         }
+    }
+
+    // The refusal of a number; `BadHouse` where none has it.
+    pub fn of(number: u64) -> Refusal
+        ensures { λ r. ⌜ r ≡ refusal number ⌝ }
+    {
+        if number < 1 {
+            return Refusal::BadHouse;
+        }
+        if number > MOST_REFUSAL {
+            return Refusal::BadHouse;
+        }
+        let refusals = REFUSALS;
+        refusals[(number - 1) as usize]
     }
 }
 

@@ -6,7 +6,7 @@ use mathlib.Core.Bool.{Bool, true, false, cond}
 use mathlib.Core.List.{List}
 use borrow.Author.Tests.{lt-ltb, ltb-true, ne-eqb, eqb-true}
 use lib.Dec.{eqb, ltb}
-use Rattle.config.specs.declared.answer.Refusal.{Refusal}
+use Rattle.config.specs.Refusals.{refusal}
 use Rattle.config.specs.declared.answer.Verdict.{Verdict}
 use Rattle.config.specs.declared.answer.Number.{Number}
 use Rattle.config.proofs.Clusters.{valid-bounds, value-not-refused}
@@ -65,15 +65,15 @@ ask-told x i out at next = by-tests (fits x) refl (eqb (x .operation .mode) runn
   where
     asked : Bool → Bool → Bool → Written
     asked f m l =
-        cond f (cond m (cond l (place (requestMessage x i) out at) (unwritten Refusal.BadHouse out)) (unwritten Refusal.Idle out)) (unwritten Refusal.BadHouse out)
+        cond f (cond m (cond l (place (requestMessage x i) out at) (unwritten (refusal 1) out)) (unwritten (refusal 9) out)) (unwritten (refusal 1) out)
 
     by-tests : (f : Bool) → fits x ≡ f → (m : Bool) → eqb (x .operation .mode) running ≡ m → (l : Bool) → ltb i (x .config .n) ≡ l
         → asked f m l .answer ≡ Number.Value next → Asked x i out at (asked f m l)
     by-tests true p true q true r d =
         record { fitting = p; runs = eqb-true (x .operation .mode) running q; one-of = ltb-true i (x .config .n) r; placed = refl }
-    by-tests true p true q false r d = absurd (value-not-refused next Refusal.BadHouse (sym d))
-    by-tests true p false q l r d = absurd (value-not-refused next Refusal.Idle (sym d))
-    by-tests false p m q l r d = absurd (value-not-refused next Refusal.BadHouse (sym d))
+    by-tests true p true q false r d = absurd (value-not-refused next (refusal 1) (sym d))
+    by-tests true p false q l r d = absurd (value-not-refused next (refusal 9) (sym d))
+    by-tests false p m q l r d = absurd (value-not-refused next (refusal 1) (sym d))
 
 -- The bytes that an accepted ask left in the buffer, from the place given up to the place handed back, read back to the request that was meant.
 pub ask-asks : (x : Desk) (i : ℕ) (out : List ℕ) (at next : ℕ) → Typed x → askOf x i out at .answer ≡ Number.Value next

@@ -8,6 +8,7 @@ use mathlib.Core.List.{List}
 use borrow.Author.Tests.{eqb-true, leb-true, ltb-true, lt-leb, le-leb, eq-eqb}
 use lib.Dec.{eqb, leb, ltb}
 use lib.ListN.{length, getD}
+use Rattle.config.specs.Refusals.{refusal}
 use Rattle.config.specs.declared.answer.Refusal.{Refusal}
 use Rattle.config.specs.declared.answer.Verdict.{Verdict}
 use Rattle.ledger.proofs.Checks.{accepted-not-refused}
@@ -37,13 +38,13 @@ begin-cases P x kind v note refuses accepts =
   where
     by-tests : (f l m r : Bool) → leb (length v) mostValue ≡ l → ltb (x .round) mostRound ≡ r
         → P (cond f
-        (cond l (cond m (refused Refusal.Busy x) (cond r (accepted (begun x kind (valueOf v) note)) (refused Refusal.Spent x))) (refused Refusal.Long x))
-        (refused Refusal.BadHouse x))
-    by-tests true true true r a b = refuses Refusal.Busy
+        (cond l (cond m (refused (refusal 8) x) (cond r (accepted (begun x kind (valueOf v) note)) (refused (refusal 12) x))) (refused (refusal 14) x))
+        (refused (refusal 1) x))
+    by-tests true true true r a b = refuses (refusal 8)
     by-tests true true false true a b = accepts (leb-true (length v) 64 a) (ltb-true (x .round) mostRound b)
-    by-tests true true false false a b = refuses Refusal.Spent
-    by-tests true false m r a b = refuses Refusal.Long
-    by-tests false l m r a b = refuses Refusal.BadHouse
+    by-tests true true false false a b = refuses (refusal 12)
+    by-tests true false m r a b = refuses (refusal 14)
+    by-tests false l m r a b = refuses (refusal 1)
 
 -- a drop is refused, or an operation runs and is gone
 drop-cases : (P : DeskAnswer → Type 0) (x : Desk)
@@ -53,10 +54,10 @@ unfolding dropOf
 drop-cases P x refuses accepts = by-tests (fits x) (eqb (x .operation .mode) running) refl
   where
     by-tests : (f m : Bool) → eqb (x .operation .mode) running ≡ m
-        → P (cond f (cond m (accepted (dropped x)) (refused Refusal.Idle x)) (refused Refusal.BadHouse x))
+        → P (cond f (cond m (accepted (dropped x)) (refused (refusal 9) x)) (refused (refusal 1) x))
     by-tests true true e = accepts (eqb-true (x .operation .mode) running e)
-    by-tests true false e = refuses Refusal.Idle
-    by-tests false m e = refuses Refusal.BadHouse
+    by-tests true false e = refuses (refusal 9)
+    by-tests false m e = refuses (refusal 1)
 
 -- ---- what a verdict tells
 
@@ -158,11 +159,11 @@ drop-typed x t =
 -- ---- the order of the tests
 
 -- a value that is too long is told before an operation that runs, and that before the last round
-pub begin-long : (x : Desk) (kind : ℕ) (v : List ℕ) (note : ℕ) → fits x ≡ true → 64 < length v → beginOf x kind v note ≡ refused Refusal.Long x
+pub begin-long : (x : Desk) (kind : ℕ) (v : List ℕ) (note : ℕ) → fits x ≡ true → 64 < length v → beginOf x kind v note ≡ refused (refusal 14) x
 unfolding beginOf
 begin-long x kind v note f l = rw (f, lt-leb (length v) 64 l) refl
 
 pub begin-busy : (x : Desk) (kind : ℕ) (v : List ℕ) (note : ℕ) → fits x ≡ true → length v ≤ 64 → x .operation .mode ≡ running
-    → beginOf x kind v note ≡ refused Refusal.Busy x
+    → beginOf x kind v note ≡ refused (refusal 8) x
 unfolding beginOf startOf
 begin-busy x kind v note f l m = rw (f, le-leb (length v) 64 l, eq-eqb (x .operation .mode) running m) refl

@@ -7,7 +7,7 @@ use borrow.Author.Tests.{leb-true}
 use lib.Dec.{leb}
 use Rattle.quorums.proofs.Tests.{both}
 use Rattle.config.specs.Cluster.{configOf, validOf}
-use Rattle.config.specs.declared.answer.Refusal.{Refusal}
+use Rattle.config.specs.Refusals.{refusal}
 use Rattle.config.specs.declared.answer.Verdict.{Verdict}
 use Rattle.ledger.proofs.Checks.{accepted-not-refused}
 use Rattle.replica.specs.Replicas.{fits as fitsReplica}
@@ -55,7 +55,7 @@ running-round x e m =
 
 -- what `open` answers
 abbrev opened : ℕ → ℕ → ℕ → Bool → DeskAnswer
-opened n f d b = cond b (accepted (freshDesk (configOf n f) d)) (refused Refusal.BadHouse blankDesk)
+opened n f d b = cond b (accepted (freshDesk (configOf n f) d)) (refused (refusal 1) blankDesk)
 
 opens-told : (c : Config) (d : ℕ) → opens c d ≡ true → (numberLawful d ≡ true) × (validOf c ≡ true)
 unfolding opens

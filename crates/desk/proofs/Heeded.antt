@@ -6,7 +6,7 @@ use mathlib.Core.List.{List}
 use borrow.Author.Tests.{eqb-true, ltb-true, not-false}
 use lib.Dec.{eqb, ltb}
 use Rattle.quorums.proofs.Tests.{both, chosen-first}
-use Rattle.config.specs.Refusals.{by-verdict}
+use Rattle.config.specs.Refusals.{by-verdict, refusal}
 use Rattle.config.specs.declared.answer.Refusal.{Refusal}
 use Rattle.config.specs.declared.answer.Verdict.{Verdict}
 use Rattle.config.specs.declared.answer.Verdict.the-variants.{Accepted, Refused}
@@ -66,19 +66,19 @@ module _ (P : Heard → Type 0) (x : Desk) (refuses : (k : Refusal) → P (refus
   unfolding restartOf
   restart-cases p i d = by-test (ltb (x .round) mostRound) refl
     where
-      by-test : (b : Bool) → ltb (x .round) mostRound ≡ b → P (cond b (accepted (restarted x p)) (refused Refusal.Spent x))
+      by-test : (b : Bool) → ltb (x .round) mostRound ≡ b → P (cond b (accepted (restarted x p)) (refused (refusal 12) x))
       by-test true e = d .restarts (ltb-true (x .round) mostRound e)
-      by-test false e = refuses Refusal.Spent
+      by-test false e = refuses (refusal 12)
 
   choose-cases : (p : Replica) (i : ℕ) → Does P x p i → P (chooseOf x p)
   unfolding chooseOf
   choose-cases p i d = by-tests (ltb (x .round) mostRound) (noStamp x (p .register)) refl refl
     where
       by-tests : (b s : Bool) → ltb (x .round) mostRound ≡ b → noStamp x (p .register) ≡ s
-          → P (cond b (cond s (refused Refusal.Spent x) (accepted (chose x p))) (refused Refusal.Spent x))
-      by-tests true true e n = refuses Refusal.Spent
+          → P (cond b (cond s (refused (refusal 12) x) (accepted (chose x p))) (refused (refusal 12) x))
+      by-tests true true e n = refuses (refusal 12)
       by-tests true false e n = d .chooses (ltb-true (x .round) mostRound e) n
-      by-tests false s e n = refuses Refusal.Spent
+      by-tests false s e n = refuses (refusal 12)
 
   mark-cases : (p : Replica) (i : ℕ) → Does P x p i → P (markOf x p i)
   unfolding markOf
@@ -98,9 +98,9 @@ module _ (P : Heard → Type 0) (x : Desk) (refuses : (k : Refusal) → P (refus
       p = join (x .replica) r
 
       by-tests : (s t c l : Bool) → (s ≡ false → t ≡ true → c ≡ false → Heeded x e r)
-          → P (cond s (refused Refusal.Stray x) (cond t (cond c (refused Refusal.Clash x) (cond l (restartOf x p) (markOf x p (e .server)))) (late x)))
-      by-tests true t c l h = refuses Refusal.Stray
-      by-tests false true true l h = refuses Refusal.Clash
+          → P (cond s (refused (refusal 7) x) (cond t (cond c (refused (refusal 6) x) (cond l (restartOf x p) (markOf x p (e .server)))) (late x)))
+      by-tests true t c l h = refuses (refusal 7)
+      by-tests false true true l h = refuses (refusal 6)
       by-tests false true false true h = restart-cases p (e .server) (takes (h refl refl refl))
       by-tests false true false false h = mark-cases p (e .server) (takes (h refl refl refl))
       by-tests false false c l h = lates
@@ -122,7 +122,7 @@ module _ (P : Heard → Type 0) (x : Desk) (refuses : (k : Refusal) → P (refus
       r = receiveOf (x .config) msg .replica
 
       by-tests : (f : Bool) (w : Verdict) → fits x ≡ f → receiveOf (x .config) msg .verdict ≡ w
-          → P (cond f (by-verdict w (hearFields x e r) (λ k. refused k x)) (refused Refusal.BadHouse x))
+          → P (cond f (by-verdict w (hearFields x e r) (λ k. refused k x)) (refused (refusal 1) x))
       by-tests true Accepted h a = fields-cases e r lates (takes h a)
       by-tests true (Refused k) h a = refuses k
-      by-tests false w h a = refuses Refusal.BadHouse
+      by-tests false w h a = refuses (refusal 1)

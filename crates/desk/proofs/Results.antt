@@ -4,7 +4,7 @@ use mathlib.Core.Path.{_≡_, refl, sym}
 use mathlib.Core.Bool.{Bool, true, false, cond}
 use borrow.Author.Tests.{ne-eqb, eqb-true}
 use lib.Dec.{eqb}
-use Rattle.config.specs.declared.answer.Refusal.{Refusal}
+use Rattle.config.specs.Refusals.{refusal}
 use Rattle.config.specs.declared.answer.Verdict.{Verdict}
 use Rattle.ledger.proofs.Checks.{accepted-not-refused}
 use Rattle.replica.specs.Values.{bytesOf}
@@ -24,7 +24,7 @@ unfolding resultOf
 result-told x e = by-tests (fits x) (eqb (x .operation .mode) ended) refl e
   where
     tested : Bool → Bool → Told
-    tested f m = cond f (cond m (told (x .operation)) (refused Refusal.Idle)) (refused Refusal.BadHouse)
+    tested f m = cond f (cond m (told (x .operation)) (refused (refusal 9))) (refused (refusal 1))
 
     by-tests : (f m : Bool) → eqb (x .operation .mode) ended ≡ m → tested f m .verdict ≡ Verdict.Accepted
         → (x .operation .mode ≡ ended) × (tested f m ≡ told (x .operation))
@@ -33,7 +33,7 @@ result-told x e = by-tests (fits x) (eqb (x .operation .mode) ended) refl e
     by-tests false m d t = accepted-not-refused _ (sym t)
 
 -- while an operation runs there is none
-pub result-running : (x : Desk) → fits x ≡ true → x .operation .mode ≡ running → resultOf x ≡ refused Refusal.Idle
+pub result-running : (x : Desk) → fits x ≡ true → x .operation .mode ≡ running → resultOf x ≡ refused (refusal 9)
 unfolding resultOf
 result-running x e m = simp (e, ne-eqb (x .operation .mode) ended (λ d. omega arith))
 

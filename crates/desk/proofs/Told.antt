@@ -5,6 +5,7 @@ use mathlib.Core.Bool.{Bool, true, false, cond}
 use mathlib.Core.List.{List}
 use borrow.Author.Tests.{eq-eqb, ne-eqb}
 use Rattle.config.specs.Cluster.{validOf}
+use Rattle.config.specs.Refusals.{refusal}
 use Rattle.config.specs.declared.answer.Refusal.{Refusal}
 use Rattle.config.specs.declared.answer.Verdict.{Verdict}
 use Rattle.ledger.specs.Weights.{quorumOf}
@@ -25,13 +26,13 @@ use Rattle.desk.proofs.Heeded.{waiting}
 
 module _ (x : Desk) (r : Replica) where
   -- what lacks a transfer of the desk's is refused
-  pub join-lacking : lacks (r .ledger) (x .replica .ledger) ≡ true → notJoined Refusal.Clash (x .replica) ≡ joinOf x r
+  pub join-lacking : lacks (r .ledger) (x .replica .ledger) ≡ true → notJoined (refusal 6) (x .replica) ≡ joinOf x r
   unfolding joinOf clashes
   join-lacking l = rw l (by-test (joinable (x .config) (x .replica) r))
     where
       by-test : (j : Bool)
-          → notJoined Refusal.Clash (x .replica)
-          ≡ cond (cond j true true) (notJoined Refusal.Clash (x .replica)) (joined (join (x .replica) r))
+          → notJoined (refusal 6) (x .replica)
+          ≡ cond (cond j true true) (notJoined (refusal 6) (x .replica)) (joined (join (x .replica) r))
       by-test true = refl
       by-test false = refl
 
@@ -42,8 +43,8 @@ module _ (x : Desk) (r : Replica) where
   join-rest v l = rw (v, l) (by-test (joinable (x .config) (x .replica) r))
     where
       by-test : (j : Bool)
-          → cond j (joined (join (x .replica) r)) (notJoined Refusal.Clash (x .replica))
-          ≡ cond (cond j false true) (notJoined Refusal.Clash (x .replica)) (joined (join (x .replica) r))
+          → cond j (joined (join (x .replica) r)) (notJoined (refusal 6) (x .replica))
+          ≡ cond (cond j false true) (notJoined (refusal 6) (x .replica)) (joined (join (x .replica) r))
       by-test true = refl
       by-test false = refl
 
@@ -77,7 +78,7 @@ module _ (x : Desk) (p : Replica) (i : ℕ) where
 -- ---- hear of the fields of a message
 
 module _ (x : Desk) (e : Envelope) (r : Replica) where
-  pub fields-stray : stray x e ≡ true → hearFields x e r ≡ refused Refusal.Stray x
+  pub fields-stray : stray x e ≡ true → hearFields x e r ≡ refused (refusal 7) x
   unfolding hearFields
   fields-stray s = rw s refl
 
@@ -87,7 +88,7 @@ module _ (x : Desk) (e : Envelope) (r : Replica) where
 
   -- a reply of the operation's round
   module _ (s : stray x e ≡ false) (t : timely x e ≡ true) where
-    pub fields-clash : clashes x r ≡ true → hearFields x e r ≡ refused Refusal.Clash x
+    pub fields-clash : clashes x r ≡ true → hearFields x e r ≡ refused (refusal 6) x
     unfolding hearFields
     fields-clash c = rw (s, t, c) refl
 
@@ -103,7 +104,7 @@ module _ (x : Desk) (e : Envelope) (r : Replica) where
 -- ---- hear of a message
 
 module _ (x : Desk) (msg : List ℕ) where
-  pub hear-unfit : fits x ≡ false → hearOf x msg ≡ refused Refusal.BadHouse x
+  pub hear-unfit : fits x ≡ false → hearOf x msg ≡ refused (refusal 1) x
   unfolding hearOf
   hear-unfit f = rw f refl
 

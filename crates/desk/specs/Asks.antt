@@ -4,6 +4,7 @@ use mathlib.Core.Bool.{cond}
 use mathlib.Core.List.{List}
 use lib.Dec.{eqb, ltb}
 use Rattle.config.specs.declared.answer.Refusal.{Refusal}
+use Rattle.config.specs.Refusals.{refusal}
 use Rattle.config.specs.declared.answer.Number.{Number}
 use Rattle.replica.specs.declared.envelope.Envelope.{Envelope}
 use Rattle.replica.specs.Envelopes.{request, messageOf, Written, place}
@@ -26,6 +27,6 @@ unfoldable pub askOf : Desk → ℕ → List ℕ → ℕ → Written
 askOf x i out at =
     cond (fits x)
     (cond (eqb (x .operation .mode) running)
-    (cond (ltb i (x .config .n)) (place (requestMessage x i) out at) (unwritten Refusal.BadHouse out))
-    (unwritten Refusal.Idle out))
-    (unwritten Refusal.BadHouse out)
+    (cond (ltb i (x .config .n)) (place (requestMessage x i) out at) (unwritten (refusal 1) out))
+    (unwritten (refusal 9) out))
+    (unwritten (refusal 1) out)

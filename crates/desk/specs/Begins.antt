@@ -4,7 +4,7 @@ use mathlib.Core.Bool.{cond}
 use mathlib.Core.List.{List}
 use lib.Dec.{eqb, leb, ltb}
 use lib.ListN.{length}
-use Rattle.config.specs.declared.answer.Refusal.{Refusal}
+use Rattle.config.specs.Refusals.{refusal}
 use Rattle.replica.specs.declared.value.Value.{Value}
 use Rattle.replica.specs.Values.{valueOf, mostValue}
 use Rattle.desk.specs.declared.record.Desk.{Desk}
@@ -19,13 +19,13 @@ begun x kind value note = turned x (suc (x .round)) (begunOperation kind value n
 -- 8, then 12
 unfoldable pub startOf : Desk → ℕ → Value → ℕ → DeskAnswer
 startOf x kind value note =
-    cond (eqb (x .operation .mode) running) (refused Refusal.Busy x)
-    (cond (ltb (x .round) mostRound) (accepted (begun x kind value note)) (refused Refusal.Spent x))
+    cond (eqb (x .operation .mode) running) (refused (refusal 8) x)
+    (cond (ltb (x .round) mostRound) (accepted (begun x kind value note)) (refused (refusal 12) x))
 
 -- Begin of a kind, with a note, 0 for none, and the value to be written, which for a read is empty: 14, 8, 12.
 unfoldable pub beginOf : Desk → ℕ → List ℕ → ℕ → DeskAnswer
 beginOf x kind v note =
-    cond (fits x) (cond (leb (length v) mostValue) (startOf x kind (valueOf v) note) (refused Refusal.Long x)) (refused Refusal.BadHouse x)
+    cond (fits x) (cond (leb (length v) mostValue) (startOf x kind (valueOf v) note) (refused (refusal 14) x)) (refused (refusal 1) x)
 
 -- no operation any more
 abbrev pub dropped : Desk → Desk
@@ -34,4 +34,4 @@ dropped x = turned x (x .round) noOperation
 -- Drop: 9 if no operation runs, else it is gone.
 unfoldable pub dropOf : Desk → DeskAnswer
 dropOf x =
-    cond (fits x) (cond (eqb (x .operation .mode) running) (accepted (dropped x)) (refused Refusal.Idle x)) (refused Refusal.BadHouse x)
+    cond (fits x) (cond (eqb (x .operation .mode) running) (accepted (dropped x)) (refused (refusal 9) x)) (refused (refusal 1) x)

@@ -5,6 +5,7 @@ use lib.Dec.{leb}
 use Rattle.config.specs.Cluster.{configOf, validOf}
 use Rattle.config.specs.declared.cluster.Config.{Config}
 use Rattle.config.specs.declared.answer.Refusal.{Refusal}
+use Rattle.config.specs.Refusals.{refusal}
 use Rattle.config.specs.declared.answer.Verdict.{Verdict}
 use Rattle.replica.specs.Replicas.{freshReplica, fits as fitsReplica, Typed as TypedReplica}
 use Rattle.desk.specs.declared.operation.Operation.{Operation}
@@ -49,7 +50,7 @@ opens c d = cond (numberLawful d) (validOf c) false
 
 -- Open: a fresh record, or 1.
 unfoldable pub openOf : ℕ → ℕ → ℕ → DeskAnswer
-openOf n f d = cond (opens (configOf n f) d) (accepted (freshDesk (configOf n f) d)) (refused Refusal.BadHouse blankDesk)
+openOf n f d = cond (opens (configOf n f) d) (accepted (freshDesk (configOf n f) d)) (refused (refusal 1) blankDesk)
 
 -- A record that a call can have: arrays have their lengths, and each number fits its type.
 pub record Typed (x : Desk) : Type 0 where

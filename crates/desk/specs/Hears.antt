@@ -5,7 +5,7 @@ use mathlib.Core.Bool.{Bool, true, false, cond, not}
 use mathlib.Core.List.{List}
 use lib.Dec.{eqb, ltb}
 use Rattle.config.specs.Cluster.{mostStamp}
-use Rattle.config.specs.Refusals.{by-verdict}
+use Rattle.config.specs.Refusals.{by-verdict, refusal}
 use Rattle.config.specs.declared.answer.Refusal.{Refusal}
 use Rattle.ledger.specs.Maps.{named}
 use Rattle.ledger.specs.Weights.{quorumOf}
@@ -51,7 +51,7 @@ clashes x r = cond (joinable (x .config) (x .replica) r) (lacks (r .ledger) (x .
 
 -- what the desk holds, joined with r, or 6
 unfoldable pub joinOf : Desk → Replica → Joined
-joinOf x r = cond (clashes x r) (notJoined Refusal.Clash (x .replica)) (joined (join (x .replica) r))
+joinOf x r = cond (clashes x r) (notJoined (refusal 6) (x .replica)) (joined (join (x .replica) r))
 
 -- ---- a larger sheet
 
@@ -78,7 +78,7 @@ abbrev pub restarted : Desk → Replica → Desk
 restarted x p = moved x p (suc (x .round)) (answeredBy (x .operation) 0 (suc (x .operation .restarts)))
 
 unfoldable pub restartOf : Desk → Replica → Heard
-restartOf x p = cond (ltb (x .round) mostRound) (accepted (restarted x p)) (refused Refusal.Spent x)
+restartOf x p = cond (ltb (x .round) mostRound) (accepted (restarted x p)) (refused (refusal 12) x)
 
 -- ---- an equal sheet
 
@@ -115,7 +115,7 @@ chose x p =
 
 unfoldable pub chooseOf : Desk → Replica → Heard
 chooseOf x p =
-    cond (ltb (x .round) mostRound) (cond (noStamp x (p .register)) (refused Refusal.Spent x) (accepted (chose x p))) (refused Refusal.Spent x)
+    cond (ltb (x .round) mostRound) (cond (noStamp x (p .register)) (refused (refusal 12) x) (accepted (chose x p))) (refused (refusal 12) x)
 
 -- phase 2 ends the operation: what its result does not give is 0
 abbrev pub finishedOperation : Operation → Operation
@@ -146,13 +146,13 @@ markOf x p i =
 -- hear of the fields of a message
 unfoldable pub hearFields : Desk → Envelope → Replica → Heard
 hearFields x e r =
-    cond (stray x e) (refused Refusal.Stray x)
+    cond (stray x e) (refused (refusal 7) x)
     (cond (timely x e)
-    (cond (clashes x r) (refused Refusal.Clash x)
+    (cond (clashes x r) (refused (refusal 6) x)
     (cond (lacks (x .replica .ledger) (r .ledger)) (restartOf x (join (x .replica) r)) (markOf x (join (x .replica) r) (e .server))))
     (late x))
 
 unfoldable pub hearOf : Desk → List ℕ → Heard
 hearOf x msg =
     cond (fits x) (let y = receiveOf (x .config) msg in by-verdict (y .verdict) (hearFields x (y .envelope) (y .replica)) (λ k. refused k x))
-    (refused Refusal.BadHouse x)
+    (refused (refusal 1) x)

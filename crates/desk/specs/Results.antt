@@ -2,6 +2,7 @@
 use mathlib.Core.Bool.{cond}
 use lib.Dec.{eqb}
 use Rattle.config.specs.declared.answer.Refusal.{Refusal}
+use Rattle.config.specs.Refusals.{refusal}
 use Rattle.config.specs.declared.answer.Verdict.{Verdict}
 use Rattle.replica.specs.Registers.{startRegister, trimmed}
 use Rattle.desk.specs.declared.operation.Operation.{Operation}
@@ -18,4 +19,4 @@ abbrev pub refused : Refusal → Told
 refused k = record { verdict = Verdict.Refused k; kind = 0; register = startRegister; restarts = 0 }
 
 unfoldable pub resultOf : Desk → Told
-resultOf x = cond (fits x) (cond (eqb (x .operation .mode) ended) (told (x .operation)) (refused Refusal.Idle)) (refused Refusal.BadHouse)
+resultOf x = cond (fits x) (cond (eqb (x .operation .mode) ended) (told (x .operation)) (refused (refusal 9))) (refused (refusal 1))

@@ -6,6 +6,7 @@ use mathlib.Core.Bool.{Bool, true, false, cond}
 use Rattle.quorums.proofs.Tests.{chosen-first, chosen-second}
 use Rattle.config.specs.Cluster.{validOf}
 use Rattle.config.specs.declared.cluster.Config.{Config}
+use Rattle.config.specs.Refusals.{refusal}
 use Rattle.config.specs.declared.answer.Refusal.{Refusal}
 use Rattle.config.specs.declared.answer.Verdict.{Verdict}
 use Rattle.ledger.specs.declared.ledger.Ledger.{Ledger}
@@ -20,9 +21,9 @@ unfolding boundsAnswer floorAnswer checkAnswer
 check-floor c l e = by-tests (validOf c) (bounded c l) e
   where
     by-tests : (v b : Bool)
-        → cond v (cond b Verdict.Accepted (Verdict.Refused Refusal.OddField)) (Verdict.Refused Refusal.BadHouse) ≡ Verdict.Accepted
-        → cond v (cond (aboveFloor c l) Verdict.Accepted (Verdict.Refused Refusal.Light)) (Verdict.Refused Refusal.BadHouse)
-        ≡ cond v (cond b (cond (aboveFloor c l) Verdict.Accepted (Verdict.Refused Refusal.Light)) (Verdict.Refused Refusal.OddField)) (Verdict.Refused Refusal.BadHouse)
+        → cond v (cond b Verdict.Accepted (Verdict.Refused (refusal 4))) (Verdict.Refused (refusal 1)) ≡ Verdict.Accepted
+        → cond v (cond (aboveFloor c l) Verdict.Accepted (Verdict.Refused (refusal 5))) (Verdict.Refused (refusal 1))
+        ≡ cond v (cond b (cond (aboveFloor c l) Verdict.Accepted (Verdict.Refused (refusal 5))) (Verdict.Refused (refusal 4))) (Verdict.Refused (refusal 1))
     by-tests true true d = refl
     by-tests true false d = accepted-not-refused _ (sym d)
     by-tests false b d = refl
@@ -33,9 +34,9 @@ unfolding boundsAnswer checkAnswer
 check-bounds c l r e = by-tests (validOf c) (bounded c l) e
   where
     by-tests : (v b : Bool)
-        → cond v (cond b Verdict.Accepted (Verdict.Refused Refusal.OddField)) (Verdict.Refused Refusal.BadHouse) ≡ Verdict.Refused r
+        → cond v (cond b Verdict.Accepted (Verdict.Refused (refusal 4))) (Verdict.Refused (refusal 1)) ≡ Verdict.Refused r
         → Verdict.Refused r
-        ≡ cond v (cond b (cond (aboveFloor c l) Verdict.Accepted (Verdict.Refused Refusal.Light)) (Verdict.Refused Refusal.OddField)) (Verdict.Refused Refusal.BadHouse)
+        ≡ cond v (cond b (cond (aboveFloor c l) Verdict.Accepted (Verdict.Refused (refusal 5))) (Verdict.Refused (refusal 4))) (Verdict.Refused (refusal 1))
     by-tests true true d = accepted-not-refused r d
     by-tests true false d = sym d
     by-tests false b d = sym d

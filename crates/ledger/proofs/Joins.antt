@@ -1,6 +1,7 @@
 -- What an answer of `join` tells.
 use mathlib.Core.Path.{_≡_, refl, sym, ap, _∙_}
 use mathlib.Core.Bool.{Bool, true, false, cond}
+use Rattle.config.specs.Refusals.{refusal}
 use Rattle.config.specs.declared.answer.Refusal.{Refusal}
 use Rattle.config.specs.declared.answer.Verdict.{Verdict}
 use Rattle.ledger.specs.declared.ledger.Ledger.{Ledger}
@@ -13,7 +14,7 @@ pub join-told : (a b : Ledger) (r : Changed) → r ≡ joinAnswer a b → r .ver
 unfolding joinAnswer
 join-told a b r e v = by-test (joins a b) e
   where
-    by-test : (t : Bool) → r ≡ cond t (accepted (joined a b)) (refused Refusal.Clash a) → (t ≡ true) × (r .ledger ≡ joined a b)
+    by-test : (t : Bool) → r ≡ cond t (accepted (joined a b)) (refused (refusal 6) a) → (t ≡ true) × (r .ledger ≡ joined a b)
     by-test true d = (refl, ap (λ x. x .ledger) d)
     by-test false d = accepted-not-refused _ (sym v ∙ ap (λ x. x .verdict) d)
 
@@ -21,6 +22,6 @@ pub join-refused : (a b : Ledger) (r : Changed) (x : Refusal) → r ≡ joinAnsw
 unfolding joinAnswer
 join-refused a b r x e v = by-test (joins a b) e
   where
-    by-test : (t : Bool) → r ≡ cond t (accepted (joined a b)) (refused Refusal.Clash a) → t ≡ false
+    by-test : (t : Bool) → r ≡ cond t (accepted (joined a b)) (refused (refusal 6) a) → t ≡ false
     by-test true d = accepted-not-refused x (sym (ap (λ x. x .verdict) d) ∙ v)
     by-test false d = refl

@@ -5,7 +5,7 @@ use lib.Dec.{leb, ltb, eqb}
 use lib.ListN.{set}
 use Rattle.config.specs.Cluster.{serverOf}
 use Rattle.config.specs.declared.cluster.Config.{Config}
-use Rattle.config.specs.declared.answer.Refusal.{Refusal}
+use Rattle.config.specs.Refusals.{refusal}
 use Rattle.ledger.specs.declared.ledger.Ledger.{Ledger}
 use Rattle.ledger.specs.declared.ledger.Changed.{Changed}
 use Rattle.ledger.specs.Ledgers.{countOf, cellOf, refused, accepted}
@@ -30,6 +30,6 @@ unfoldable pub addAnswer : Config → Ledger → ℕ → ℕ → ℕ → Changed
 addAnswer c l i j d =
     cond (serverOf c i)
     (cond (lawful c i j d)
-    (cond (roomFor (countOf l i) (cellOf l i j) d) (accepted (added l i j d)) (refused Refusal.Spent l))
-    (refused Refusal.BadTransfer l))
-    (refused Refusal.BadHouse l)
+    (cond (roomFor (countOf l i) (cellOf l i j) d) (accepted (added l i j d)) (refused (refusal 12) l))
+    (refused (refusal 11) l))
+    (refused (refusal 1) l)

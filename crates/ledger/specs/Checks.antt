@@ -7,7 +7,7 @@ use lib.ListN.{getD}
 use Rattle.quorums.specs.Sum.{all}
 use Rattle.config.specs.Cluster.{validOf, aboveOf, mostWeight}
 use Rattle.config.specs.declared.cluster.Config.{Config}
-use Rattle.config.specs.declared.answer.Refusal.{Refusal}
+use Rattle.config.specs.Refusals.{refusal}
 use Rattle.config.specs.declared.answer.Verdict.{Verdict}
 use Rattle.ledger.specs.declared.ledger.Ledger.{Ledger}
 use Rattle.ledger.specs.Ledgers.{countOf, givenOf, lineOf}
@@ -48,13 +48,13 @@ aboveFloor c l = all (c .n) (serverAbove c l)
 -- What the calls answer: 1 for the cluster, 4 for a range, 5 for the floor.
 
 unfoldable pub boundsAnswer : Config → Ledger → Verdict
-boundsAnswer c l = cond (validOf c) (cond (bounded c l) Verdict.Accepted (Verdict.Refused Refusal.OddField)) (Verdict.Refused Refusal.BadHouse)
+boundsAnswer c l = cond (validOf c) (cond (bounded c l) Verdict.Accepted (Verdict.Refused (refusal 4))) (Verdict.Refused (refusal 1))
 
 unfoldable pub floorAnswer : Config → Ledger → Verdict
-floorAnswer c l = cond (validOf c) (cond (aboveFloor c l) Verdict.Accepted (Verdict.Refused Refusal.Light)) (Verdict.Refused Refusal.BadHouse)
+floorAnswer c l = cond (validOf c) (cond (aboveFloor c l) Verdict.Accepted (Verdict.Refused (refusal 5))) (Verdict.Refused (refusal 1))
 
 unfoldable pub checkAnswer : Config → Ledger → Verdict
 checkAnswer c l =
     cond (validOf c)
-    (cond (bounded c l) (cond (aboveFloor c l) Verdict.Accepted (Verdict.Refused Refusal.Light)) (Verdict.Refused Refusal.OddField))
-    (Verdict.Refused Refusal.BadHouse)
+    (cond (bounded c l) (cond (aboveFloor c l) Verdict.Accepted (Verdict.Refused (refusal 5))) (Verdict.Refused (refusal 4)))
+    (Verdict.Refused (refusal 1))

@@ -7,7 +7,7 @@ use lib.ListN.{getD}
 use Rattle.quorums.specs.Sum.{all}
 use Rattle.config.specs.Cluster.{validOf}
 use Rattle.config.specs.declared.cluster.Config.{Config}
-use Rattle.config.specs.declared.answer.Refusal.{Refusal}
+use Rattle.config.specs.Refusals.{refusal}
 use Rattle.ledger.specs.declared.ledger.Ledger.{Ledger}
 use Rattle.ledger.specs.declared.ledger.Changed.{Changed}
 use Rattle.ledger.specs.Tables.{table}
@@ -59,10 +59,10 @@ lacks a b = not (all 16 (hasAt a b))
 -- What the calls answer. A refusal leaves the first ledger as it was.
 
 unfoldable pub joinAnswer : Ledger → Ledger → Changed
-joinAnswer a b = cond (joins a b) (accepted (joined a b)) (refused Refusal.Clash a)
+joinAnswer a b = cond (joins a b) (accepted (joined a b)) (refused (refusal 6) a)
 
 unfoldable pub mergeAnswer : Config → Ledger → Ledger → Changed
 mergeAnswer c a b =
     cond (validOf c)
-    (cond (joins a b) (cond (aboveFloor c (joined a b)) (accepted (joined a b)) (refused Refusal.Clash a)) (refused Refusal.Clash a))
-    (refused Refusal.BadHouse a)
+    (cond (joins a b) (cond (aboveFloor c (joined a b)) (accepted (joined a b)) (refused (refusal 6) a)) (refused (refusal 6) a))
+    (refused (refusal 1) a)

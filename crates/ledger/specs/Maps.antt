@@ -5,7 +5,7 @@ use lib.Dec.{eqb, ltb}
 use Rattle.quorums.specs.Sum.{size}
 use Rattle.config.specs.Cluster.{validOf}
 use Rattle.config.specs.declared.cluster.Config.{Config}
-use Rattle.config.specs.declared.answer.Refusal.{Refusal}
+use Rattle.config.specs.Refusals.{refusal}
 use Rattle.config.specs.declared.answer.Number.{Number}
 
 -- whether the map m names server i: bit i, bit 0 worth 1
@@ -18,4 +18,4 @@ mapOf c m = cond (validOf c) (ltb m (2 ^ c .n)) false
 
 -- how many servers m names; 1 for a bit ≥ n
 unfoldable pub namedAnswer : Config → ℕ → Number
-namedAnswer c m = cond (mapOf c m) (Number.Value (size (c .n) (named m))) (Number.Refused Refusal.BadHouse)
+namedAnswer c m = cond (mapOf c m) (Number.Value (size (c .n) (named m))) (Number.Refused (refusal 1))

@@ -5,7 +5,7 @@ use lib.IntN.{ℤ}
 use Rattle.quorums.specs.Accounts.{weight, weightIn, margin, quorum}
 use Rattle.config.specs.Cluster.{validOf, serverOf, decide}
 use Rattle.config.specs.declared.cluster.Config.{Config}
-use Rattle.config.specs.declared.answer.Refusal.{Refusal}
+use Rattle.config.specs.Refusals.{refusal}
 use Rattle.config.specs.declared.answer.Number.{Number}
 use Rattle.config.specs.declared.answer.Signed.{Signed}
 use Rattle.config.specs.declared.answer.Decision.{Decision}
@@ -32,19 +32,19 @@ quorumOf c l m = quorum (c .n) (accountsOf c l) (named m)
 -- What the calls answer.
 
 unfoldable pub givenAnswer : Config → Ledger → ℕ → Number
-givenAnswer c l i = cond (serverOf c i) (Number.Value (givenOf l i)) (Number.Refused Refusal.BadHouse)
+givenAnswer c l i = cond (serverOf c i) (Number.Value (givenOf l i)) (Number.Refused (refusal 1))
 
 unfoldable pub receivedAnswer : Config → Ledger → ℕ → Number
-receivedAnswer c l i = cond (serverOf c i) (Number.Value (receivedOf l i)) (Number.Refused Refusal.BadHouse)
+receivedAnswer c l i = cond (serverOf c i) (Number.Value (receivedOf l i)) (Number.Refused (refusal 1))
 
 unfoldable pub weightAnswer : Config → Ledger → ℕ → Signed
-weightAnswer c l i = cond (serverOf c i) (Signed.Value (weightOf c l i)) (Signed.Refused Refusal.BadHouse)
+weightAnswer c l i = cond (serverOf c i) (Signed.Value (weightOf c l i)) (Signed.Refused (refusal 1))
 
 unfoldable pub allAnswer : Config → Ledger → Signed
-allAnswer c l = cond (validOf c) (Signed.Value (allOf c l)) (Signed.Refused Refusal.BadHouse)
+allAnswer c l = cond (validOf c) (Signed.Value (allOf c l)) (Signed.Refused (refusal 1))
 
 unfoldable pub marginAnswer : Config → Ledger → ℕ → Signed
-marginAnswer c l m = cond (mapOf c m) (Signed.Value (marginOf c l m)) (Signed.Refused Refusal.BadHouse)
+marginAnswer c l m = cond (mapOf c m) (Signed.Value (marginOf c l m)) (Signed.Refused (refusal 1))
 
 unfoldable pub quorumAnswer : Config → Ledger → ℕ → Decision
-quorumAnswer c l m = cond (mapOf c m) (decide (quorumOf c l m)) (Decision.Refused Refusal.BadHouse)
+quorumAnswer c l m = cond (mapOf c m) (decide (quorumOf c l m)) (Decision.Refused (refusal 1))

@@ -11,7 +11,6 @@ use lib.ListN.{length}
 use Rattle.quorums.proofs.Tests.{le-or-lt}
 use Rattle.quorums.proofs.Sums.{below-suc}
 use Rattle.config.specs.declared.cluster.Config.{Config}
-use Rattle.config.specs.declared.answer.Refusal.{Refusal}
 use Rattle.machine.specs.Parties.{Register, Task, valueOf, Phase, first, second, by-phase, Operation, Result, Activity, idle, running, ended, if-ended, Desk}
 use Rattle.machine.specs.Calls.{mostRound, mostValue, Answer, unmade, refused, done, told, accept, refuse, begun, beginBy, resultBy}
 use Rattle.machine.specs.Runs.{machine, Step, begin, hear, put, nth, when, nothing, take, Run, State, at, answerAt}
@@ -178,7 +177,7 @@ module _ (c : Config) (steps : List Step) where
   gives-ended d k x = by-activity (deskAt r d k .activity)
     where
       by-activity : (a : Activity)
-          → resultIn (if-ended a (λ y. accept (told y) (deskAt r d k)) (refuse Refusal.Idle (deskAt r d k)) .answer) ≡ some x
+          → resultIn (if-ended a (λ y. accept (told y) (deskAt r d k)) (refuse 9 (deskAt r d k)) .answer) ≡ some x
           → a ≡ ended x
       by-activity idle e = absurd (Option·none-ne-some x e)
       by-activity (running o) e = absurd (Option·none-ne-some x e)

@@ -18,7 +18,6 @@ use Rattle.quorums.proofs.Differences.{difference-le, difference-same, differen
 use Rattle.quorums.proofs.Rule.{quorum-published, floor-published, gift-published}
 use Rattle.config.specs.Cluster.{validOf, startOf, totalOf, aboveOf}
 use Rattle.config.specs.declared.cluster.Config.{Config}
-use Rattle.config.specs.declared.answer.Refusal.{Refusal}
 use Rattle.machine.specs.Sets.{Transfers, has, union, tally, count, given, received, accounts, weightOf, quorumOf}
 use Rattle.machine.specs.Parties.{Replica, join, Message}
 use Rattle.machine.specs.Calls.{mostCount, refused, done, accept, refuse, given-away, transferBy}
@@ -55,20 +54,20 @@ module _ (c : Config) (valid : validOf c ≡ true) (steps : List Step) (k : ℕ)
 -- ---- Algorithm 4, line 12
 
 -- a refusal is no "done"
-refused-apart : (k : Refusal) → refused k ≡ done → ⊥
+refused-apart : (k : ℕ) → refused k ≡ done → ⊥
 refused-apart k e = false≢true (ap accepted e)
 
 -- server i, which holds r, is asked to give e to j, and neither 11 nor 12 refuses that
 module _ (c : Config) (i : ℕ) (r : Replica) (j e : ℕ) (other : j ≡ i → ⊥) (taker : j < c .n) (amount : 1 ≤ e)
     (room : count (r .set) i < mostCount) where
   -- then the floor's test decides
-  answer-is : transferBy c i r j e .answer ≡ cond (aboveOf c (weightOf c (r .set) i -ℤ pos e)) done (refused Refusal.Thin)
+  answer-is : transferBy c i r j e .answer ≡ cond (aboveOf c (weightOf c (r .set) i -ℤ pos e)) done (refused 10)
   unfolding transferBy
   answer-is =
       rw (ne-eqb j i other, lt-leb (c .n) j taker, ne-eqb e 0 (λ z. omega arith), lt-leb mostCount (count (r .set) i) room)
       (by-test (aboveOf c (weightOf c (r .set) i -ℤ pos e)))
     where
-      by-test : (b : Bool) → cond b (accept done (given-away r i j e)) (refuse Refusal.Thin r) .answer ≡ cond b done (refused Refusal.Thin)
+      by-test : (b : Bool) → cond b (accept done (given-away r i j e)) (refuse 10 r) .answer ≡ cond b done (refused 10)
       by-test true = refl
       by-test false = refl
 
@@ -79,13 +78,13 @@ module _ (c : Config) (i : ℕ) (r : Replica) (j e : ℕ) (other : j ≡ i → �
 
   pub acceptance : (transferBy c i r j e .answer ≡ done) ↔ Line12 (c .n) (c .f) (totalOf c) (weightOf c (r .set) i) e
   acceptance = (
-    λ d. floor-line .0 (chosen-first _ done (refused Refusal.Thin) done (refused-apart Refusal.Thin) (sym answer-is ∙ d) .0),
-    λ l. answer-is ∙ ap (λ b. cond b done (refused Refusal.Thin)) (floor-line .1 l),
+    λ d. floor-line .0 (chosen-first _ done (refused 10) done (refused-apart 10) (sym answer-is ∙ d) .0),
+    λ l. answer-is ∙ ap (λ b. cond b done (refused 10)) (floor-line .1 l),
   )
 
   -- otherwise it is refused with 10
-  pub refused-otherwise : (Line12 (c .n) (c .f) (totalOf c) (weightOf c (r .set) i) e → ⊥) → transferBy c i r j e .answer ≡ refused Refusal.Thin
-  refused-otherwise over = answer-is ∙ ap (λ b. cond b done (refused Refusal.Thin)) (test-false _ (λ t. over (floor-line .0 t)))
+  pub refused-otherwise : (Line12 (c .n) (c .f) (totalOf c) (weightOf c (r .set) i) e → ⊥) → transferBy c i r j e .answer ≡ refused 10
+  refused-otherwise over = answer-is ∙ ap (λ b. cond b done (refused 10)) (test-false _ (λ t. over (floor-line .0 t)))
 
 -- ---- Definition 5, RP-Validity-I
 

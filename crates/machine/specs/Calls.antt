@@ -8,7 +8,6 @@ use lib.IntN.{pos, _-ℤ_}
 use lib.ListN.{length}
 use Rattle.config.specs.Cluster.{aboveOf, mostStamp}
 use Rattle.config.specs.declared.cluster.Config.{Config}
-use Rattle.config.specs.declared.answer.Refusal.{Refusal}
 use Rattle.machine.specs.Sets.{includes, count, weightOf, quorumOf}
 use Rattle.machine.specs.Parties.{Register, Replica, join, request, reply, share, Message, by-kind, bytesOf, Task, by-task, writes, valueOf, first, second, by-phase, Operation, Result, idle, running, ended, if-running, if-ended, Desk, answered}
 
@@ -27,7 +26,7 @@ mostValue = 64
 pub data Answer : Type 0 where
   unmade : Answer
   late : Answer
-  refused : Refusal → Answer
+  refused : ℕ → Answer
   done : Answer
   wrote : ℕ → Answer
   told : Result → Answer
@@ -43,14 +42,14 @@ abbrev pub accept : {A : Type 0} → Answer → A → Outcome A
 accept a x = record { answer = a; party = x; sent = [] }
 
 -- nothing changes and nothing is sent
-abbrev pub refuse : {A : Type 0} → Refusal → A → Outcome A
+abbrev pub refuse : {A : Type 0} → ℕ → A → Outcome A
 refuse k x = record { answer = refused k; party = x; sent = [] }
 
 -- the message m is written from a place on, where it fits into the buffer, and sent; otherwise 13
 unfoldable pub send : {A : Type 0} → Config → A → A → Message → ℕ → ℕ → Outcome A
 send c old new m place size =
     let next = place + length (bytesOf c m) in
-    cond (leb next size) (record { answer = wrote next; party = new; sent = m ∷ [] }) (refuse Refusal.Narrow old)
+    cond (leb next size) (record { answer = wrote next; party = new; sent = m ∷ [] }) (refuse 13 old)
 
 -- ---- server i, which holds r
 
@@ -66,11 +65,11 @@ spares c r i d = aboveOf c (weightOf c (r .set) i -ℤ pos d)
 -- Transfer: 11, 12, then 10.
 unfoldable pub transferBy : Config → ℕ → Replica → ℕ → ℕ → Outcome Replica
 transferBy c i r j d =
-    cond (eqb j i) (refuse Refusal.BadTransfer r)
-    (cond (leb (c .n) j) (refuse Refusal.BadTransfer r)
-    (cond (eqb d 0) (refuse Refusal.BadTransfer r)
-    (cond (leb mostCount (count (r .set) i)) (refuse Refusal.Spent r)
-    (cond (spares c r i d) (accept done (given-away r i j d)) (refuse Refusal.Thin r)))))
+    cond (eqb j i) (refuse 11 r)
+    (cond (leb (c .n) j) (refuse 11 r)
+    (cond (eqb d 0) (refuse 11 r)
+    (cond (leb mostCount (count (r .set) i)) (refuse 12 r)
+    (cond (spares c r i d) (accept done (given-away r i j d)) (refuse 10 r)))))
 
 -- Share: the pair is sent, or 13.
 unfoldable pub shareBy : Config → ℕ → Replica → ℕ → ℕ → Outcome Replica
@@ -91,7 +90,7 @@ answerRequest c i r m place size = send c r (served r m) (replyTo m i (served r 
 -- Serve: 7, then 13 for a request; a share is joined, and nothing is written.
 unfoldable pub serveBy : Config → ℕ → Replica → Message → ℕ → ℕ → Outcome Replica
 serveBy c i r m place size =
-    by-kind (m .kind) (cond (eqb (m .server) i) (answerRequest c i r m place size) (refuse Refusal.Stray r)) (refuse Refusal.Stray r)
+    by-kind (m .kind) (cond (eqb (m .server) i) (answerRequest c i r m place size) (refuse 7 r)) (refuse 7 r)
     (accept (wrote place) (served r m))
 
 -- ---- desk d, which is x
@@ -108,9 +107,9 @@ begun x t note =
 -- Begin: 14, 8, then 12.
 unfoldable pub beginBy : Config → Desk → Task → ℕ → Outcome Desk
 beginBy c x t note =
-    cond (ltb mostValue (length (valueOf t))) (refuse Refusal.Long x)
-    (if-running (x .activity) (λ o. refuse Refusal.Busy x)
-    (cond (leb mostRound (x .round)) (refuse Refusal.Spent x) (accept done (begun x t note))))
+    cond (ltb mostValue (length (valueOf t))) (refuse 14 x)
+    (if-running (x .activity) (λ o. refuse 8 x)
+    (cond (leb mostRound (x .round)) (refuse 12 x) (accept done (begun x t note))))
 
 -- a request with round, note and pair
 abbrev pub requestOf : ℕ → Desk → Operation → ℕ → Message
@@ -119,7 +118,7 @@ requestOf d x o i = record { kind = request; server = i; desk = d; round = x .ro
 -- Ask: 9, 1, then 13.
 unfoldable pub askBy : Config → ℕ → Desk → ℕ → ℕ → ℕ → Outcome Desk
 askBy c d x i place size =
-    if-running (x .activity) (λ o. cond (ltb i (c .n)) (send c x x (requestOf d x o i) place size) (refuse Refusal.BadHouse x)) (refuse Refusal.Idle x)
+    if-running (x .activity) (λ o. cond (ltb i (c .n)) (send c x x (requestOf d x o i) place size) (refuse 1 x)) (refuse 9 x)
 
 -- whether the desk's set has every transfer of a reply
 abbrev pub knows : Desk → Message → Bool
@@ -136,7 +135,7 @@ restarted x o m =
     }
 
 unfoldable pub restart : Desk → Operation → Message → Outcome Desk
-restart x o m = cond (leb mostRound (x .round)) (refuse Refusal.Spent x) (accept done (restarted x o m))
+restart x o m = cond (leb mostRound (x .round)) (refuse 12 x) (accept done (restarted x o m))
 
 -- The register that phase 1 chooses, where r is held: a read that one, a write stamp + 1, its own number and the new value.
 abbrev pub chosen : ℕ → Task → Register → Register
@@ -165,8 +164,8 @@ moved-on d x o p =
 
 unfoldable pub choose : Config → ℕ → Desk → Operation → Replica → Outcome Desk
 choose c d x o p =
-    cond (leb mostRound (x .round)) (refuse Refusal.Spent x)
-    (cond (no-stamp c (o .task) (p .register)) (refuse Refusal.Spent x) (accept done (moved-on d x o p)))
+    cond (leb mostRound (x .round)) (refuse 12 x)
+    (cond (no-stamp c (o .task) (p .register)) (refuse 12 x) (accept done (moved-on d x o p)))
 
 -- the end of phase 2, in which g was the chosen register
 abbrev pub finished : Desk → Operation → Replica → Register → Desk
@@ -190,17 +189,17 @@ mark c d x o m =
 -- Hear: 7; "late" if no operation runs or the round is not the current one; then as above.
 unfoldable pub hearBy : Config → ℕ → Desk → Message → Outcome Desk
 hearBy c d x m =
-    by-kind (m .kind) (refuse Refusal.Stray x)
+    by-kind (m .kind) (refuse 7 x)
     (cond (eqb (m .desk) d)
     (if-running (x .activity)
     (λ o. cond (eqb (m .round) (x .round)) (cond (knows x m) (mark c d x o m) (restart x o m)) (accept late x))
     (accept late x))
-    (refuse Refusal.Stray x))
-    (refuse Refusal.Stray x)
+    (refuse 7 x))
+    (refuse 7 x)
 
 -- Result: that of the operation that has ended, or 9.
 unfoldable pub resultBy : Desk → Outcome Desk
-resultBy x = if-ended (x .activity) (λ r. accept (told r) x) (refuse Refusal.Idle x)
+resultBy x = if-ended (x .activity) (λ r. accept (told r) x) (refuse 9 x)
 
 -- no operation runs any more
 abbrev pub dropped : Desk → Desk
@@ -208,4 +207,4 @@ dropped x = record { replica = x .replica; round = x .round; activity = idle }
 
 -- Drop: 9 if no operation runs; otherwise it is gone.
 unfoldable pub dropBy : Desk → Outcome Desk
-dropBy x = if-running (x .activity) (λ o. accept done (dropped x)) (refuse Refusal.Idle x)
+dropBy x = if-running (x .activity) (λ o. accept done (dropped x)) (refuse 9 x)

@@ -9,7 +9,8 @@ use lib.Dec.{eqb, leb}
 use lib.ListN.{length}
 use Rattle.quorums.proofs.Tests.{chosen-first, chosen-second}
 use Rattle.config.specs.Cluster.{validOf}
-use Rattle.config.specs.Refusals.{numberOf}
+use Rattle.config.specs.Refusals.{numberOf, refusal}
+use Rattle.config.proofs.Refusals.{number-back}
 use Rattle.config.specs.declared.cluster.Config.{Config}
 use Rattle.config.specs.declared.answer.Refusal.{Refusal}
 use Rattle.config.specs.declared.answer.Verdict.{Verdict}
@@ -17,7 +18,7 @@ use Rattle.ledger.proofs.Checks.{accepted-not-refused}
 use Rattle.message.specs.declared.state.Cursor.{Cursor}
 use Rattle.message.specs.Cursors.{start, numberAt, within, readBytes, readNumber, skip, require}
 use Rattle.message.specs.Scans.{cellsAfter, readCount, cellMapOf, rowOf, rowsAfter, readMap, readKind, headOf, registerOf, sheetOf, readNote, endOf, scanOf}
-use Rattle.message.specs.Answers.{check, decode, refusalOf, verdictOf, checkAnswer}
+use Rattle.message.specs.Answers.{check, decode, verdictOf, checkAnswer}
 
 either : (b : Bool) (x y : Cursor) → x .number ≤ 5 → y .number ≤ 5 → cond b x y .number ≤ 5
 either true x y p q = p
@@ -93,16 +94,6 @@ check-most c msg = by-valid (validOf c)
 
 -- ---- the answer
 
-pub refusal-number : (k : ℕ) → 0 < k → k ≤ 5 → numberOf (refusalOf k) ≡ k
-unfolding refusalOf
-refusal-number zero p l = absurd (omega arith)
-refusal-number (suc zero) p l = refl
-refusal-number (suc (suc zero)) p l = refl
-refusal-number (suc (suc (suc zero))) p l = refl
-refusal-number (suc (suc (suc (suc zero)))) p l = refl
-refusal-number (suc (suc (suc (suc (suc zero))))) p l = refl
-refusal-number (suc (suc (suc (suc (suc (suc k)))))) p l = absurd (omega arith)
-
 -- 0 is accepted
 pub check-accepted : (c : Config) (msg : List ℕ) → check c msg ≡ 0 → checkAnswer c msg ≡ Verdict.Accepted
 unfolding checkAnswer verdictOf
@@ -110,20 +101,20 @@ check-accepted c msg e = simp (eq-eqb (check c msg) 0 e)
 
 -- every other number is that of the refusal
 pub check-refused : (c : Config) (msg : List ℕ) → 0 < check c msg
-    → (checkAnswer c msg ≡ Verdict.Refused (refusalOf (check c msg))) × (numberOf (refusalOf (check c msg)) ≡ check c msg)
+    → (checkAnswer c msg ≡ Verdict.Refused (refusal (check c msg))) × (numberOf (refusal (check c msg)) ≡ check c msg)
 unfolding checkAnswer verdictOf
-check-refused c msg p = (simp (ne-eqb (check c msg) 0 (λ e. omega arith)), refusal-number (check c msg) p (check-most c msg))
+check-refused c msg p = (simp (ne-eqb (check c msg) 0 (λ e. omega arith)), number-back (check c msg) p (omega (arith, check-most c msg)))
 
 -- and a verdict tells whether there was a number
 pub accepted-check : (k : ℕ) → verdictOf k ≡ Verdict.Accepted → k ≡ 0
 unfolding verdictOf
 accepted-check k e =
     eqb-true k 0
-    (chosen-first (eqb k 0) Verdict.Accepted (Verdict.Refused (refusalOf k)) Verdict.Accepted (λ d. accepted-not-refused (refusalOf k) (sym d)) e .0)
+    (chosen-first (eqb k 0) Verdict.Accepted (Verdict.Refused (refusal k)) Verdict.Accepted (λ d. accepted-not-refused (refusal k) (sym d)) e .0)
 
 pub refused-check : (k : ℕ) (n : Refusal) → verdictOf k ≡ Verdict.Refused n → eqb k 0 ≡ false
 unfolding verdictOf
-refused-check k n e = chosen-second (eqb k 0) Verdict.Accepted (Verdict.Refused (refusalOf k)) (Verdict.Refused n) (accepted-not-refused n) e
+refused-check k n e = chosen-second (eqb k 0) Verdict.Accepted (Verdict.Refused (refusal k)) (Verdict.Refused n) (accepted-not-refused n) e
 
 -- the number of what was read is that of the check
 pub decode-number : (c : Config) (msg : List ℕ) → decode c msg .number ≡ check c msg

@@ -6,7 +6,7 @@ use lib.ListN.{length, take, drop}
 use lib.Dec.{eqb, leb}
 use Rattle.config.specs.Cluster.{validOf}
 use Rattle.config.specs.declared.cluster.Config.{Config}
-use Rattle.config.specs.declared.answer.Refusal.{Refusal}
+use Rattle.config.specs.Refusals.{refusal}
 use Rattle.config.specs.declared.answer.Verdict.{Verdict}
 use Rattle.config.specs.declared.answer.Number.{Number}
 use Rattle.message.specs.declared.header.Header.{Header}
@@ -33,12 +33,9 @@ decode c msg =
     (record { number = 0; header = scanOf c msg .header; value = take (scanOf c msg .length) (drop (scanOf c msg .from) msg) })
     (record { number = check c msg; header = blankHeader; value = [] })
 
-unfoldable pub refusalOf : ℕ → Refusal
-refusalOf k =
-    cond (eqb k 1) Refusal.BadHouse (cond (eqb k 2) Refusal.Torn (cond (eqb k 3) Refusal.BadMap (cond (eqb k 4) Refusal.OddField Refusal.Light)))
-
+-- 0 is no fault
 unfoldable pub verdictOf : ℕ → Verdict
-verdictOf k = cond (eqb k 0) Verdict.Accepted (Verdict.Refused (refusalOf k))
+verdictOf k = cond (eqb k 0) Verdict.Accepted (Verdict.Refused (refusal k))
 
 unfoldable pub checkAnswer : Config → List ℕ → Verdict
 checkAnswer c msg = verdictOf (check c msg)
@@ -73,8 +70,8 @@ writes c h v room at = cond (eqb (check c (encode c h v)) 0) (fits room at (leng
 unfoldable pub writeAnswer : Config → Header → List ℕ → ℕ → ℕ → Number
 writeAnswer c h v room at =
     cond (eqb (check c (encode c h v)) 0)
-    (cond (fits room at (length (encode c h v))) (Number.Value (at + length (encode c h v))) (Number.Refused Refusal.Narrow))
-    (Number.Refused (refusalOf (check c (encode c h v))))
+    (cond (fits room at (length (encode c h v))) (Number.Value (at + length (encode c h v))) (Number.Refused (refusal 13)))
+    (Number.Refused (refusal (check c (encode c h v))))
 
 -- the bytes e in the place of as many at the front of a buffer
 unfoldable pub over : List ℕ → List ℕ → List ℕ

@@ -6,7 +6,6 @@ mod state;
 
 pub use answer::Fields;
 pub use answer::Parts;
-pub use answer::refusal;
 pub use header::Header;
 pub use header::Tag;
 pub use header::register_fits;

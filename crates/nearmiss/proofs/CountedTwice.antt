@@ -2,7 +2,6 @@
 -- reads through 1 and 2.
 use mathlib.Core.Path.{_≡_, refl}
 use mathlib.Core.List.{List, [], _∷_, _++_}
-use Rattle.config.specs.declared.answer.Refusal.{Refusal}
 use Rattle.machine.specs.Parties.{start, read, write}
 use Rattle.machine.specs.Calls.{refused}
 use Rattle.machine.specs.Runs.{Step, begin, ask, serve, hear, result, machine, Run, answerAt}
@@ -49,6 +48,6 @@ unfolding computing
 counted-twice-unordered = lower-tag sale-ends sale-chose refl read-chose refl
 
 -- On the plain machine the sale has not ended when desk 2 begins.
-pub ours : answerAt (runBy machine 3 1 steps) 9 ≡ refused Refusal.Idle
+pub ours : answerAt (runBy machine 3 1 steps) 9 ≡ refused 9
 unfolding computing
 ours = refl

@@ -8,7 +8,6 @@ use mathlib.Core.List.{List, [], _∷_, _++_}
 use lib.Dec.{eqb}
 use Rattle.quorums.specs.Sum.{sum}
 use Rattle.config.specs.Cluster.{configOf, validOf}
-use Rattle.config.specs.declared.answer.Refusal.{Refusal}
 use Rattle.format.specs.Bytes.{bit}
 use Rattle.machine.specs.Sets.{quorumOf}
 use Rattle.machine.specs.Parties.{start, reply, Message, read, write, second, running, Result}
@@ -108,7 +107,7 @@ three i = cond (eqb i 0) true (cond (eqb i 1) true (eqb i 3))
 pub record Parting : Type 0 where
   -- the answers part at place 23: the next two replies, and what desk 1 is told
   pub their-answers : answers theirs ≡ until ++ (done ∷ done ∷ told (written sold 0) ∷ []) ++ after
-  pub our-answers : answers ours ≡ until ++ (late ∷ late ∷ refused Refusal.Idle ∷ []) ++ after
+  pub our-answers : answers ours ≡ until ++ (late ∷ late ∷ refused 9 ∷ []) ++ after
   -- because at place 22, the first reply made on another sheet, the wrong store counts it and the plain machine starts the round again
   pub counted : deskAt theirs 1 23 .activity ≡ running (record { task = write sale; note = 0; phase = second sold; heard = countedReply ∷ []; restarts = 0 })
   pub restarted : deskAt ours 1 23 .activity ≡ running (record { task = write sale; note = 0; phase = second sold; heard = []; restarts = 1 })

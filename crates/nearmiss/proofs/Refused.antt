@@ -6,7 +6,6 @@ use mathlib.Core.Path.{_≡_, refl}
 use mathlib.Core.List.{[], _∷_}
 use lib.ListN.{replicate}
 use Rattle.config.specs.Cluster.{configOf}
-use Rattle.config.specs.declared.answer.Refusal.{Refusal}
 use Rattle.machine.specs.Sets.{Transfer, Transfers, tally, count}
 use Rattle.machine.specs.Parties.{start, fresh, Replica, reply, Message, Task, read, write, Phase, first, second, running, idle, Desk}
 use Rattle.machine.specs.Calls.{late, refused, done, wrote, unmade, refuse, transferBy, beginBy, hearBy, mostCount, mostRound}
@@ -50,28 +49,28 @@ tried =
 
 pub record Tried : Type 0 where
   -- 9: no result, no operation to drop, none to ask for
-  pub no-result : answerAt tried 0 ≡ refused Refusal.Idle
-  pub nothing-dropped : answerAt tried 1 ≡ refused Refusal.Idle
-  pub nothing-asked : answerAt tried 2 ≡ refused Refusal.Idle
+  pub no-result : answerAt tried 0 ≡ refused 9
+  pub nothing-dropped : answerAt tried 1 ≡ refused 9
+  pub nothing-asked : answerAt tried 2 ≡ refused 9
   -- 14: 65 bytes; 64 are accepted
-  pub long : answerAt tried 3 ≡ refused Refusal.Long
+  pub long : answerAt tried 3 ≡ refused 14
   pub not-long : answerAt tried 4 ≡ done
   -- 8: an operation runs
-  pub busy : answerAt tried 5 ≡ refused Refusal.Busy
+  pub busy : answerAt tried 5 ≡ refused 8
   -- 1: there is no server 3
-  pub no-server : answerAt tried 6 ≡ refused Refusal.BadHouse
+  pub no-server : answerAt tried 6 ≡ refused 1
   -- 13: 9 bytes for 10, and a place past the end; 10 bytes from place 5 on are accepted
-  pub narrow-request : answerAt tried 7 ≡ refused Refusal.Narrow
-  pub past-end : answerAt tried 8 ≡ refused Refusal.Narrow
+  pub narrow-request : answerAt tried 7 ≡ refused 13
+  pub past-end : answerAt tried 8 ≡ refused 13
   pub request-sent : answerAt tried 9 ≡ wrote 15
   -- 7: a request for another server; then 13, and the reply is accepted
-  pub other-server : answerAt tried 10 ≡ refused Refusal.Stray
-  pub narrow-reply : answerAt tried 11 ≡ refused Refusal.Narrow
+  pub other-server : answerAt tried 10 ≡ refused 7
+  pub narrow-reply : answerAt tried 11 ≡ refused 13
   pub reply-sent : answerAt tried 12 ≡ wrote 10
   -- 7: a reply served, a request heard, a reply for another desk
-  pub reply-served : answerAt tried 13 ≡ refused Refusal.Stray
-  pub request-heard : answerAt tried 14 ≡ refused Refusal.Stray
-  pub other-desk : answerAt tried 15 ≡ refused Refusal.Stray
+  pub reply-served : answerAt tried 13 ≡ refused 7
+  pub request-heard : answerAt tried 14 ≡ refused 7
+  pub other-desk : answerAt tried 15 ≡ refused 7
   pub reply-heard : answerAt tried 16 ≡ done
   -- late: no operation runs, or a later round
   pub operation-dropped : answerAt tried 17 ≡ done
@@ -79,16 +78,16 @@ pub record Tried : Type 0 where
   pub begun-again : answerAt tried 19 ≡ done
   pub old-round : answerAt tried 20 ≡ late
   -- 11: to itself, to no server, nothing
-  pub to-itself : answerAt tried 21 ≡ refused Refusal.BadTransfer
-  pub to-none : answerAt tried 22 ≡ refused Refusal.BadTransfer
-  pub amount-zero : answerAt tried 23 ≡ refused Refusal.BadTransfer
+  pub to-itself : answerAt tried 21 ≡ refused 11
+  pub to-none : answerAt tried 22 ≡ refused 11
+  pub amount-zero : answerAt tried 23 ≡ refused 11
   -- 10: 750 is not above the floor, 751 is
-  pub thin : answerAt tried 24 ≡ refused Refusal.Thin
+  pub thin : answerAt tried 24 ≡ refused 10
   pub not-thin : answerAt tried 25 ≡ done
   -- 13 of a share; 7 of a desk that hears it; a server takes it into a buffer of no length
-  pub narrow-share : answerAt tried 26 ≡ refused Refusal.Narrow
+  pub narrow-share : answerAt tried 26 ≡ refused 13
   pub share-sent : answerAt tried 27 ≡ wrote 14
-  pub share-heard : answerAt tried 28 ≡ refused Refusal.Stray
+  pub share-heard : answerAt tried 28 ≡ refused 7
   pub share-served : answerAt tried 29 ≡ wrote 7
   -- no call is made: desk 0, a message not sent yet, a crashed server
   pub no-desk : answerAt tried 30 ≡ unmade
@@ -160,15 +159,15 @@ lastDesk = record { replica = fresh; round = mostRound; activity = idle }
 
 pub record Spent : Type 0 where
   -- begin at the last round, and a round before
-  pub begin-spent : beginBy (configOf 1 0) lastDesk read 0 ≡ refuse Refusal.Spent lastDesk
+  pub begin-spent : beginBy (configOf 1 0) lastDesk read 0 ≡ refuse 12 lastDesk
   pub begin-not-spent : beginBy (configOf 1 0) (record { replica = fresh; round = 4294967294; activity = idle }) read 0 .answer ≡ done
   -- a restart, and the end of phase 1
   pub restart-spent : hearBy (configOf 1 0) 1 (running-in mostRound 1 read first) (replied mostRound (gift ∷ []))
-      ≡ refuse Refusal.Spent (running-in mostRound 1 read first)
-  pub choice-spent : hearBy (configOf 1 0) 1 (running-in mostRound 1 read first) (replied mostRound []) ≡ refuse Refusal.Spent (running-in mostRound 1 read first)
+      ≡ refuse 12 (running-in mostRound 1 read first)
+  pub choice-spent : hearBy (configOf 1 0) 1 (running-in mostRound 1 read first) (replied mostRound []) ≡ refuse 12 (running-in mostRound 1 read first)
   -- a write at the last stamp, and a read there
   pub stamp-spent : hearBy (configOf 1 0) 1 (running-in 1 4294967295 (write sale) first) (replied 1 [])
-      ≡ refuse Refusal.Spent (running-in 1 4294967295 (write sale) first)
+      ≡ refuse 12 (running-in 1 4294967295 (write sale) first)
   pub read-not-spent : hearBy (configOf 1 0) 1 (running-in 1 4294967295 read first) (replied 1 []) .answer ≡ done
   -- the end of phase 2 needs no round
   pub end-not-spent : hearBy (configOf 1 0) 1 (running-in mostRound 1 read (second start)) (replied mostRound []) .answer ≡ done
@@ -202,9 +201,9 @@ unfolding swaps count tally
 swaps-counted zero = refl
 swaps-counted (suc k) = omega (arith, swaps-counted k)
 
-spent-at : (r : Replica) → count (r .set) 0 ≡ mostCount → transferBy (configOf 3 1) 0 r 1 1 ≡ refuse Refusal.Spent r
+spent-at : (r : Replica) → count (r .set) 0 ≡ mostCount → transferBy (configOf 3 1) 0 r 1 1 ≡ refuse 12 r
 unfolding transferBy
 spent-at r e = rw e
 
-pub transfers-spent : transferBy (configOf 3 1) 0 (swapped 65535) 1 1 ≡ refuse Refusal.Spent (swapped 65535)
+pub transfers-spent : transferBy (configOf 3 1) 0 (swapped 65535) 1 1 ≡ refuse 12 (swapped 65535)
 transfers-spent = spent-at (swapped 65535) (swaps-counted 65535)

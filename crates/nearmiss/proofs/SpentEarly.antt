@@ -9,7 +9,6 @@ use mathlib.Core.Option.{some}
 use borrow.Author.Tests.{lt-leb, le-leb}
 use Rattle.config.specs.Cluster.{configOf, validOf}
 use Rattle.config.specs.declared.cluster.Config.{Config}
-use Rattle.config.specs.declared.answer.Refusal.{Refusal}
 use Rattle.machine.specs.Parties.{fresh, Task, read, first, running, idle, Desk}
 use Rattle.machine.specs.Calls.{refused, done, Outcome, accept, beginBy, dropBy, mostRound}
 use Rattle.machine.specs.Runs.{Step, begin, drop, State, nth, onDesk, take, opened, machine}
@@ -61,16 +60,16 @@ until-goes : (c : Config) (last m : ℕ) → last < mostRound → m < last → b
 unfolding beginUntil
 until-goes c last m l h = rw (machine-goes c m (omega arith), lt-leb last m h)
 
-until-spent : (c : Config) (last : ℕ) → last < mostRound → beginUntil last c (idle-in last) read 0 .answer ≡ refused Refusal.Spent
+until-spent : (c : Config) (last : ℕ) → last < mostRound → beginUntil last c (idle-in last) read 0 .answer ≡ refused 12
 unfolding beginUntil
 until-spent c last l = rw (machine-goes c last l, le-leb last last (le-refl last))
 
 -- n = 3, f = 1, and any round below the last: the plain machine begins there.
-pub spent-early : (last : ℕ) → last < mostRound → Unequal (spentEarly last) 3 1 (begins last) (double last) (refused Refusal.Spent) done
+pub spent-early : (last : ℕ) → last < mostRound → Unequal (spentEarly last) 3 1 (begins last) (double last) (refused 12) done
 unfolding validOf
 spent-early last l =
     unequal
-    (answers-at (runBy (spentEarly last) 3 1 (begins last)) (double last) (refused Refusal.Spent)
+    (answers-at (runBy (spentEarly last) 3 1 (begins last)) (double last) (refused 12)
     (reaches (beginUntil last) cluster last (λ m h. until-goes cluster last m l h) last 0 opened refl (omega arith) ∙ ap some (until-spent cluster last l)))
     (answers-at (runBy machine 3 1 (begins last)) (double last) done
     (reaches beginBy cluster last (λ m h. machine-goes cluster m (omega arith)) last 0 opened refl (omega arith)

@@ -1,7 +1,6 @@
 -- Stores that break the equality with the plain machine: for each a list of steps and a place at which the answers differ.
 use mathlib.Core.Path.{refl}
 use mathlib.Core.List.{List, [], _∷_, _++_}
-use Rattle.config.specs.declared.answer.Refusal.{Refusal}
 use Rattle.machine.specs.Parties.{start}
 use Rattle.machine.specs.Calls.{late, refused, done, wrote, told}
 use Rattle.machine.specs.Runs.{Step, serve, transfer, share}
@@ -22,17 +21,17 @@ abbrev pub reading : List Step
 reading = unwritten .steps
 
 -- A desk that ends at its first reply has nothing to ask for at place 4.
-pub first-reply : Unequal firstReply 3 1 reading 4 (refused Refusal.Idle) (wrote 10)
+pub first-reply : Unequal firstReply 3 1 reading 4 (refused 9) (wrote 10)
 unfolding computing hearWith endAtOnce
 first-reply = unequal refl refl refl refl
 
 -- One that never ends has no result.
-pub never-ending : Unequal neverEnds 3 1 reading 13 (refused Refusal.Idle) (told (returned start 0))
+pub never-ending : Unequal neverEnds 3 1 reading 13 (refused 9) (told (returned start 0))
 unfolding computing hearWith markWith goOn
 never-ending = unequal refl refl refl refl
 
 -- One that refuses everything does not begin.
-pub refusing : Unequal refusesAll 3 1 reading 0 (refused Refusal.Busy) done
+pub refusing : Unequal refusesAll 3 1 reading 0 (refused 8) done
 unfolding computing
 refusing = unequal refl refl refl refl
 
@@ -42,7 +41,7 @@ unfolding computing
 all-late = unequal refl refl refl refl
 
 -- A quorum by head-count: of n = 5 and f = 1, servers 2 and 4 are one by weight once 0 and 1 have passed theirs on.
-pub head-count : Unequal headCount 5 1 (passOn 0 ++ readAfter 1 2) 22 (refused Refusal.Idle) (told (returned start 1))
+pub head-count : Unequal headCount 5 1 (passOn 0 ++ readAfter 1 2) 22 (refused 9) (told (returned start 1))
 unfolding computing hearWith markWith enoughHeads
 head-count = unequal refl refl refl refl
 

@@ -6,7 +6,6 @@ use mathlib.Core.List.{List, [], _∷_}
 use borrow.Author.Tests.{ltb-true}
 use lib.IntN.{pos}
 use Rattle.config.specs.Cluster.{configOf}
-use Rattle.config.specs.declared.answer.Refusal.{Refusal}
 use Rattle.machine.specs.Sets.{Transfer, weightOf}
 use Rattle.machine.specs.Calls.{refused, done}
 use Rattle.machine.specs.Runs.{Step, transfer, machine, Run, at, answerAt}
@@ -31,7 +30,7 @@ pub record PassedOn : Type 0 where
   pub accepted : answerAt theirs 1 ≡ done
   pub weight-left : weightOf (configOf 5 1) (at theirs 2 .servers 1 .replica .set) 1 ≡ pos 252
   -- on the plain machine that is 10
-  pub ours : answerAt (runBy machine 5 1 steps) 1 ≡ refused Refusal.Thin
+  pub ours : answerAt (runBy machine 5 1 steps) 1 ≡ refused 10
 
 pub passed-on : PassedOn
 unfolding computing giftsTo transferUnheard

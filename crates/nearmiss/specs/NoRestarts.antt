@@ -1,5 +1,4 @@
 -- A store that reports no restarts.
-use Rattle.config.specs.declared.answer.Refusal.{Refusal}
 use Rattle.machine.specs.Parties.{if-ended, Desk}
 use Rattle.machine.specs.Calls.{told, Outcome, accept, refuse}
 use Rattle.machine.specs.Runs.{Store}
@@ -7,7 +6,7 @@ use Rattle.nearmiss.specs.Parts.{withResult}
 
 unfoldable pub resultWithout : Desk → Outcome Desk
 resultWithout x =
-    if-ended (x .activity) (λ r. accept (told (record { is-write = r .is-write; register = r .register; restarts = 0 })) x) (refuse Refusal.Idle x)
+    if-ended (x .activity) (λ r. accept (told (record { is-write = r .is-write; register = r .register; restarts = 0 })) x) (refuse 9 x)
 
 abbrev pub noRestarts : Store
 noRestarts = withResult resultWithout

@@ -4,7 +4,6 @@ use mathlib.Core.Bool.{Bool, cond}
 use mathlib.Core.List.{List, _∷_}
 use lib.Dec.{eqb}
 use Rattle.config.specs.declared.cluster.Config.{Config}
-use Rattle.config.specs.declared.answer.Refusal.{Refusal}
 use Rattle.machine.specs.Sets.{Transfers, quorumOf}
 use Rattle.machine.specs.Parties.{Register, Replica, join, Message, by-kind, answered, Task, by-phase, Operation, if-running, Desk}
 use Rattle.machine.specs.Calls.{late, done, Outcome, accept, refuse, knows, marked}
@@ -86,13 +85,13 @@ OnReply = Config → ℕ → Desk → Operation → Message → Outcome Desk
 -- hear, where `on-own` is done with a reply on the desk's own set and `on-other` with one that has a transfer which the desk's set lacks
 unfoldable pub hearWith : OnReply → OnReply → Config → ℕ → Desk → Message → Outcome Desk
 hearWith on-own on-other c d x m =
-    by-kind (m .kind) (refuse Refusal.Stray x)
+    by-kind (m .kind) (refuse 7 x)
     (cond (eqb (m .desk) d)
     (if-running (x .activity)
     (λ o. cond (eqb (m .round) (x .round)) (cond (knows x m) (on-own c d x o m) (on-other c d x o m)) (accept late x))
     (accept late x))
-    (refuse Refusal.Stray x))
-    (refuse Refusal.Stray x)
+    (refuse 7 x))
+    (refuse 7 x)
 
 -- the servers that answered are a quorum by weight
 abbrev pub enoughWeight : Config → Transfers → List Message → Bool

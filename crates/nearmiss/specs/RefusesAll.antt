@@ -1,5 +1,4 @@
 -- A store whose desk refuses everything, as busy.
-use Rattle.config.specs.declared.answer.Refusal.{Refusal}
 use Rattle.machine.specs.Calls.{refuse}
 use Rattle.machine.specs.Runs.{Store, machine}
 
@@ -9,9 +8,9 @@ refusesAll =
       transfer = machine .transfer;
       share = machine .share;
       serve = machine .serve;
-      begin = λ c x t note. refuse Refusal.Busy x;
-      ask = λ c d x i place size. refuse Refusal.Busy x;
-      hear = λ c d x m. refuse Refusal.Busy x;
-      result = λ x. refuse Refusal.Busy x;
-      drop = λ x. refuse Refusal.Busy x;
+      begin = λ c x t note. refuse 8 x;
+      ask = λ c d x i place size. refuse 8 x;
+      hear = λ c d x m. refuse 8 x;
+      result = λ x. refuse 8 x;
+      drop = λ x. refuse 8 x;
     }

@@ -3,7 +3,6 @@ use Prim.Native.Nat.{ℕ}
 use mathlib.Core.Bool.{cond}
 use lib.Dec.{leb}
 use Rattle.config.specs.declared.cluster.Config.{Config}
-use Rattle.config.specs.declared.answer.Refusal.{Refusal}
 use Rattle.machine.specs.Parties.{Task, Desk}
 use Rattle.machine.specs.Calls.{Outcome, refuse, beginBy}
 use Rattle.machine.specs.Runs.{Store}
@@ -14,7 +13,7 @@ use Rattle.nearmiss.specs.Parts.{withBegin}
 unfoldable pub beginUntil : ℕ → Config → Desk → Task → ℕ → Outcome Desk
 beginUntil last c x t note =
     let o = beginBy c x t note in
-    cond (accepted (o .answer)) (cond (leb last (x .round)) (refuse Refusal.Spent x) o) o
+    cond (accepted (o .answer)) (cond (leb last (x .round)) (refuse 12 x) o) o
 
 abbrev pub spentEarly : ℕ → Store
 spentEarly last = withBegin (beginUntil last)

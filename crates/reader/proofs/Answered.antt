@@ -17,7 +17,8 @@ use Rattle.ledger.specs.Tables.{table}
 use Rattle.message.specs.Scans.{headOf, registerOf, scanOf}
 use Rattle.message.specs.declared.state.RegisterRead.{RegisterRead}
 use Rattle.message.specs.Headers.{blankHeader}
-use Rattle.message.specs.Answers.{check, Decoded, decode, valueAnswer, partsAnswer, verdictOf, refusalOf}
+use Rattle.config.specs.Refusals.{refusal}
+use Rattle.message.specs.Answers.{check, Decoded, decode, valueAnswer, partsAnswer, verdictOf}
 use Rattle.message.proofs.Parts.{value-within}
 use Rattle.message.proofs.Rounds.{decoded}
 use Rattle.message.proofs.SheetBacks.{ledger-typed}
@@ -40,7 +41,7 @@ ledger-found c msg e = ap (λ (d : Decoded). d .header .ledger) (decoded c msg e
 -- ---- the fields and the place of the value, where the check gives a number, and where it gives none
 
 pub parts-refused : (c : Config) (msg : List ℕ) (k : ℕ) → check c msg ≡ k → (k ≡ 0 → ⊥)
-    → record { verdict = Verdict.Refused (refusalOf k); header = blankHeader; from = 0; end = 0 } ≡ partsAnswer c msg
+    → record { verdict = Verdict.Refused (refusal k); header = blankHeader; from = 0; end = 0 } ≡ partsAnswer c msg
 unfolding partsAnswer decode verdictOf
 parts-refused c msg k e n = simp (e, ne-eqb k 0 n)
 
@@ -89,7 +90,7 @@ given-small c msg e = rw e (given-sums _ (ledger-small c msg))
 
 -- an answer where the check gives a number, and where it gives none
 
-pub weight-refused : (c : Config) (server : ℕ) (msg : List ℕ) (k : ℕ) → check c msg ≡ k → (k ≡ 0 → ⊥) → Signed.Refused (refusalOf k) ≡ weightIn c server msg
+pub weight-refused : (c : Config) (server : ℕ) (msg : List ℕ) (k : ℕ) → check c msg ≡ k → (k ≡ 0 → ⊥) → Signed.Refused (refusal k) ≡ weightIn c server msg
 unfolding weightIn
 weight-refused c server msg k e n = simp (e, ne-eqb k 0 n)
 
@@ -97,7 +98,7 @@ pub weight-accepted : (c : Config) (server : ℕ) (msg : List ℕ) → check c m
 unfolding weightIn
 weight-accepted c server msg e = simp (e, ledger-found c msg e)
 
-pub quorum-refused : (c : Config) (map : ℕ) (msg : List ℕ) (k : ℕ) → check c msg ≡ k → (k ≡ 0 → ⊥) → Decision.Refused (refusalOf k) ≡ quorumIn c map msg
+pub quorum-refused : (c : Config) (map : ℕ) (msg : List ℕ) (k : ℕ) → check c msg ≡ k → (k ≡ 0 → ⊥) → Decision.Refused (refusal k) ≡ quorumIn c map msg
 unfolding quorumIn
 quorum-refused c map msg k e n = simp (e, ne-eqb k 0 n)
 

@@ -8,12 +8,13 @@ use Rattle.config.specs.declared.cluster.Config.{Config}
 use Rattle.config.specs.declared.answer.Signed.{Signed}
 use Rattle.config.specs.declared.answer.Decision.{Decision}
 use Rattle.ledger.specs.Weights.{weightAnswer, quorumAnswer}
-use Rattle.message.specs.Answers.{check, decode, refusalOf}
+use Rattle.config.specs.Refusals.{refusal}
+use Rattle.message.specs.Answers.{check, decode}
 
 unfoldable pub weightIn : Config → ℕ → List ℕ → Signed
 weightIn c server msg =
-    cond (eqb (check c msg) 0) (weightAnswer c (decode c msg .header .ledger) server) (Signed.Refused (refusalOf (check c msg)))
+    cond (eqb (check c msg) 0) (weightAnswer c (decode c msg .header .ledger) server) (Signed.Refused (refusal (check c msg)))
 
 unfoldable pub quorumIn : Config → ℕ → List ℕ → Decision
 quorumIn c map msg =
-    cond (eqb (check c msg) 0) (quorumAnswer c (decode c msg .header .ledger) map) (Decision.Refused (refusalOf (check c msg)))
+    cond (eqb (check c msg) 0) (quorumAnswer c (decode c msg .header .ledger) map) (Decision.Refused (refusal (check c msg)))

@@ -13,7 +13,6 @@ use config::Verdict;
 use message::Fields;
 use message::Header;
 use message::Parts;
-use message::refusal;
 ghost use mathlib.Core.Path.{_≡_};
 ghost use Rattle.message.specs.Answers.{checkAnswer, fieldsAnswer, valueAnswer, partsAnswer};
 ghost use Rattle.reader.specs.Weighings.{weightIn, quorumIn};
@@ -27,7 +26,7 @@ pub fn check(config: Config, msg: &[u8]) -> Verdict
     }
     let number = fault(config, msg);
     if number != 0 {
-        return Verdict::Refused(refusal(number));
+        return Verdict::Refused(Refusal::of(number));
     }
     Verdict::Accepted
 }
@@ -48,7 +47,7 @@ pub fn parts(config: Config, msg: &[u8]) -> Parts
     let number = fault(config, msg);
     if number != 0 {
         return Parts {
-            verdict: Verdict::Refused(refusal(number)),
+            verdict: Verdict::Refused(Refusal::of(number)),
             header: Header::blank(),
             from: 0,
             end: 0,
@@ -95,7 +94,7 @@ pub fn weight(config: Config, server: u64, msg: &[u8]) -> Signed
     let mut given: [u64; 16] = [0; 16];
     let number = scan(config, msg, &mut received, &mut given);
     if number != 0 {
-        return Signed::Refused(refusal(number));
+        return Signed::Refused(Refusal::of(number));
     }
     if !config.has(server) {
         return Signed::Refused(Refusal::BadHouse);
@@ -114,7 +113,7 @@ pub fn quorum(config: Config, map: u64, msg: &[u8]) -> Decision
     let mut given: [u64; 16] = [0; 16];
     let number = scan(config, msg, &mut received, &mut given);
     if number != 0 {
-        return Decision::Refused(refusal(number));
+        return Decision::Refused(Refusal::of(number));
     }
     let n = config.n as u32;
     if map >> n != 0 {

@@ -10,6 +10,7 @@ use lib.Dec.{eqb, ltb}
 use lib.ListN.{length, take, drop}
 use Rattle.quorums.proofs.Tests.{both}
 use Rattle.config.specs.declared.cluster.Config.{Config}
+use Rattle.config.specs.Refusals.{refusal}
 use Rattle.config.specs.declared.answer.Refusal.{Refusal}
 use Rattle.config.specs.declared.answer.Verdict.{Verdict}
 use Rattle.config.specs.declared.answer.Number.{Number}
@@ -92,7 +93,7 @@ write-placed c h v e out at =
     whole = record { answer = Number.Value (at + length (encode c h v)); out = take at out ++ over (encode c h v) (drop at out) }
 
     none : Written
-    none = record { answer = Number.Refused Refusal.Narrow; out = out }
+    none = record { answer = Number.Refused (refusal 13); out = out }
 
     answer : (b : Bool) → cond b (whole .answer) (none .answer) ≡ cond b whole none .answer
     answer true = refl

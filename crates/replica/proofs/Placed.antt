@@ -7,6 +7,7 @@ use mathlib.Core.List.{List, _++_}
 use borrow.Author.Tests.{leb-true}
 use lib.ListN.{length, take, drop}
 use lib.Seq.{length-take-le, take-append-seam, drop-append-seam, drop-append-add, drop-drop}
+use Rattle.config.specs.Refusals.{refusal}
 use Rattle.config.specs.declared.answer.Refusal.{Refusal}
 use Rattle.config.specs.declared.answer.Number.{Number}
 use Rattle.config.proofs.Clusters.{value-not-refused}
@@ -18,7 +19,7 @@ module _ (m out : List ℕ) (at : ℕ) where
   abbrev given : Bool → Written
   given b =
       cond b (record { answer = Number.Value (at + length m); out = take at out ++ over m (drop at out) })
-      (record { answer = Number.Refused Refusal.Narrow; out = out })
+      (record { answer = Number.Refused (refusal 13); out = out })
 
   -- a message that has room is written
   pub place-room : room (length out) at (length m) ≡ true → place m out at .answer ≡ Number.Value (at + length m)
@@ -32,16 +33,16 @@ module _ (m out : List ℕ) (at : ℕ) where
     where
       by-test : (b : Bool) → given b .answer ≡ Number.Value x → b ≡ true
       by-test true d = refl
-      by-test false d = absurd (value-not-refused x Refusal.Narrow (sym d))
+      by-test false d = absurd (value-not-refused x (refusal 13) (sym d))
 
   -- one that is refused has none, and leaves the buffer as it was
   pub place-narrow : (k : Refusal)
       → place m out at .answer ≡ Number.Refused k
-      → (room (length out) at (length m) ≡ false) × (Number.Refused k ≡ Number.Refused Refusal.Narrow) × (place m out at .out ≡ out)
+      → (room (length out) at (length m) ≡ false) × (Number.Refused k ≡ Number.Refused (refusal 13)) × (place m out at .out ≡ out)
   unfolding place
   place-narrow k e = by-test (room (length out) at (length m)) e
     where
-      by-test : (b : Bool) → given b .answer ≡ Number.Refused k → (b ≡ false) × (Number.Refused k ≡ Number.Refused Refusal.Narrow) × (given b .out ≡ out)
+      by-test : (b : Bool) → given b .answer ≡ Number.Refused k → (b ≡ false) × (Number.Refused k ≡ Number.Refused (refusal 13)) × (given b .out ≡ out)
       by-test true d = absurd (value-not-refused _ k d)
       by-test false d = (refl, sym d, refl)
 

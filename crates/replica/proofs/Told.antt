@@ -3,6 +3,7 @@ use mathlib.Core.Path.{_≡_, refl, sym, ap, _∙_}
 use mathlib.Core.Bool.{Bool, true, false, cond}
 use Rattle.config.specs.Cluster.{validOf}
 use Rattle.config.specs.declared.cluster.Config.{Config}
+use Rattle.config.specs.Refusals.{refusal}
 use Rattle.config.specs.declared.answer.Refusal.{Refusal}
 use Rattle.config.specs.declared.answer.Verdict.{Verdict}
 use Rattle.ledger.specs.declared.ledger.Ledger.{Ledger}
@@ -18,7 +19,7 @@ use Rattle.replica.specs.Replicas.{fits, accepted as together, refused a
 
 -- what `check` answers
 abbrev checked : Bool → Bool → Bool → Verdict
-checked v b f = cond v (cond b (cond f Verdict.Accepted (Verdict.Refused Refusal.Light)) (Verdict.Refused Refusal.OddField)) (Verdict.Refused Refusal.BadHouse)
+checked v b f = cond v (cond b (cond f Verdict.Accepted (Verdict.Refused (refusal 5))) (Verdict.Refused (refusal 4))) (Verdict.Refused (refusal 1))
 
 -- a replica whose ledger passes the check fits where its register does
 pub passed-fits : (c : Config) (r : Replica) → checkAnswer c (r .ledger) ≡ Verdict.Accepted → fitsRegister (r .register) ≡ fits c r
@@ -44,7 +45,7 @@ refused-fits c r k e = by-tests (validOf c) (bounded c (r .ledger)) (aboveFloor 
 
 -- what `merge` answers of a cluster that is one
 abbrev merged : Ledger → Ledger → Bool → Bool → Changed
-merged a b j f = cond j (cond f (accepted (joined a b)) (refused Refusal.Clash a)) (refused Refusal.Clash a)
+merged a b j f = cond j (cond f (accepted (joined a b)) (refused (refusal 6) a)) (refused (refusal 6) a)
 
 -- ledgers that merge join, and are above the floor together
 pub merge-told : (c : Config) (a b : Ledger) (r : Changed)
@@ -75,17 +76,17 @@ merge-refused c a b r k v e t = by-tests (joins a b) (aboveFloor c (joined a b))
     by-tests false f d = refl
 
 -- A party's join: where a test holds it is refused, and a stays as it was; otherwise it is p.
-module _ (b : Bool) (a p : Replica) (x : Joined) (e : x ≡ cond b (apart Refusal.Clash a) (together p)) where
+module _ (b : Bool) (a p : Replica) (x : Joined) (e : x ≡ cond b (apart (refusal 6) a) (together p)) where
   pub accepted-told : x .verdict ≡ Verdict.Accepted → (b ≡ false) × (x .replica ≡ p)
   accepted-told t = by-test b e
     where
-      by-test : (b : Bool) → x ≡ cond b (apart Refusal.Clash a) (together p) → (b ≡ false) × (x .replica ≡ p)
+      by-test : (b : Bool) → x ≡ cond b (apart (refusal 6) a) (together p) → (b ≡ false) × (x .replica ≡ p)
       by-test true d = accepted-not-refused _ (sym t ∙ ap (λ y. y .verdict) d)
       by-test false d = (refl, ap (λ y. y .replica) d)
 
   pub refused-told : (k : Refusal) → x .verdict ≡ Verdict.Refused k → b ≡ true
   refused-told k t = by-test b e
     where
-      by-test : (b : Bool) → x ≡ cond b (apart Refusal.Clash a) (together p) → b ≡ true
+      by-test : (b : Bool) → x ≡ cond b (apart (refusal 6) a) (together p) → b ≡ true
       by-test true d = refl
       by-test false d = accepted-not-refused k (sym (ap (λ y. y .verdict) d) ∙ t)

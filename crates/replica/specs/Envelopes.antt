@@ -6,7 +6,7 @@ use mathlib.Core.List.{List, _++_}
 use lib.Dec.{ltb}
 use lib.ListN.{length, take, drop}
 use Rattle.config.specs.declared.cluster.Config.{Config}
-use Rattle.config.specs.declared.answer.Refusal.{Refusal}
+use Rattle.config.specs.Refusals.{refusal}
 use Rattle.config.specs.declared.answer.Number.{Number}
 use Rattle.message.specs.declared.header.Header.{Header}
 use Rattle.message.specs.Headers.{encode}
@@ -73,7 +73,7 @@ pub record Written : Type 0 where
 unfoldable pub place : List ℕ → List ℕ → ℕ → Written
 place m out at =
     cond (room (length out) at (length m)) (record { answer = Number.Value (at + length m); out = take at out ++ over m (drop at out) })
-    (record { answer = Number.Refused Refusal.Narrow; out = out })
+    (record { answer = Number.Refused (refusal 13); out = out })
 
 -- the bytes of a buffer from a place up to another
 abbrev pub between : List ℕ → ℕ → ℕ → List ℕ

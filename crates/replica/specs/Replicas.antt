@@ -3,6 +3,7 @@ use mathlib.Core.Bool.{Bool, false, cond}
 use Rattle.config.specs.Cluster.{validOf}
 use Rattle.config.specs.declared.cluster.Config.{Config}
 use Rattle.config.specs.declared.answer.Refusal.{Refusal}
+use Rattle.config.specs.Refusals.{refusal}
 use Rattle.config.specs.declared.answer.Verdict.{Verdict}
 use Rattle.ledger.specs.Ledgers.{freshLedger, Typed as TypedLedger}
 use Rattle.ledger.specs.Checks.{bounded, aboveFloor}
@@ -36,7 +37,7 @@ refused k r = record { verdict = Verdict.Refused k; replica = r }
 
 -- What the call answers: 1 for the cluster, 6 where they do not join. A refusal leaves the first as it was.
 unfoldable pub joinAnswer : Config → Replica → Replica → Joined
-joinAnswer c a b = cond (validOf c) (cond (joinable c a b) (accepted (join a b)) (refused Refusal.Clash a)) (refused Refusal.BadHouse a)
+joinAnswer c a b = cond (validOf c) (cond (joinable c a b) (accepted (join a b)) (refused (refusal 6) a)) (refused (refusal 1) a)
 
 -- A replica that a call can have.
 pub record Typed (r : Replica) : Type 0 where

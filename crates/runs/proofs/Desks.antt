@@ -11,7 +11,7 @@ use lib.ListN.{length}
 use Rattle.quorums.proofs.Tests.{le-or-lt, eqb-comm}
 use Rattle.config.specs.Cluster.{validOf}
 use Rattle.config.specs.declared.cluster.Config.{Config}
-use Rattle.config.specs.declared.answer.Refusal.{Refusal}
+use Rattle.config.specs.Refusals.{refusal}
 use Rattle.ledger.specs.Maps.{named, mapOf}
 use Rattle.ledger.proofs.Maps.{below-named}
 use Rattle.message.specs.Cursors.{within}
@@ -125,8 +125,8 @@ module _ (c : Config) (valid : validOf c ≡ true) (sent : List Message) (d : �
   -- where no operation runs, a begin of a value that is not too long
   begun-for : (t : Task) (note : ℕ)
       → deskCalled
-      (cond (ltb (x .round) mostRound) (accepted (begun (deskFor c d x) (kindFor t) (valueOf (taskValue t)) note)) (refused Refusal.Spent (deskFor c d x)))
-      ≡ calledFor c (deskFor c d) (cond (leb mostRound (x .round)) (refuse Refusal.Spent x) (accept done (begunBy x t note)))
+      (cond (ltb (x .round) mostRound) (accepted (begun (deskFor c d x) (kindFor t) (valueOf (taskValue t)) note)) (refused (refusal 12) (deskFor c d x)))
+      ≡ calledFor c (deskFor c d) (cond (leb mostRound (x .round)) (refuse 12 x) (accept done (begunBy x t note)))
   unfolding mapFor
   begun-for t note =
       ⊎-elim (λ (l : mostRound ≤ x .round). rw (le-ltb (x .round) mostRound l, le-leb mostRound (x .round) l) refl)
@@ -136,10 +136,10 @@ module _ (c : Config) (valid : validOf c ≡ true) (sent : List Message) (d : �
   -- and whatever the desk does
   start-for : (t : Task) (note : ℕ) (a : Activity)
       → deskCalled
-      (cond (eqb (operationFor a .mode) runningMode) (refused Refusal.Busy (deskFor c d x))
-      (cond (ltb (x .round) mostRound) (accepted (begun (deskFor c d x) (kindFor t) (valueOf (taskValue t)) note)) (refused Refusal.Spent (deskFor c d x))))
+      (cond (eqb (operationFor a .mode) runningMode) (refused (refusal 8) (deskFor c d x))
+      (cond (ltb (x .round) mostRound) (accepted (begun (deskFor c d x) (kindFor t) (valueOf (taskValue t)) note)) (refused (refusal 12) (deskFor c d x))))
       ≡ calledFor c (deskFor c d)
-      (if-running a (λ o. refuse Refusal.Busy x) (cond (leb mostRound (x .round)) (refuse Refusal.Spent x) (accept done (begunBy x t note))))
+      (if-running a (λ o. refuse 8 x) (cond (leb mostRound (x .round)) (refuse 12 x) (accept done (begunBy x t note))))
   start-for t note idle = begun-for t note
   start-for t note (running o) = refl
   start-for t note (ended y) = begun-for t note
@@ -187,19 +187,19 @@ module _ (c : Config) (valid : validOf c ≡ true) (sent : List Message) (d : �
           (place
           (messageOf c (record { kind = request; server = i; desk = d; round = x .round; note = operationFor a .note }) (replicaFor (x .replica)))
           out at)
-          (unwritten Refusal.BadHouse out))
-          (unwritten Refusal.Idle out)
+          (unwritten (refusal 1) out))
+          (unwritten (refusal 9) out)
 
       by-test : (o : Operation) (b : Bool)
           → writtenCalled (deskFor c d x) (asked (running o) b) at
-          ≡ calledFor c (deskFor c d) (cond b (send c x x (requestOf d x o i) at (length out)) (refuse Refusal.BadHouse x))
+          ≡ calledFor c (deskFor c d) (cond b (send c x x (requestOf d x o i) at (length out)) (refuse 1 x))
       by-test o true = request-for (requestOf d x o i) at out (w .replica .register)
       by-test o false = refl
 
       by-activity : (a : Activity)
           → writtenCalled (deskFor c d x) (asked a (ltb i (c .n))) at
           ≡ calledFor c (deskFor c d)
-          (if-running a (λ o. cond (ltb i (c .n)) (send c x x (requestOf d x o i) at (length out)) (refuse Refusal.BadHouse x)) (refuse Refusal.Idle x))
+          (if-running a (λ o. cond (ltb i (c .n)) (send c x x (requestOf d x o i) at (length out)) (refuse 1 x)) (refuse 9 x))
       by-activity idle = refl
       by-activity (running o) = by-test o (ltb i (c .n))
       by-activity (ended y) = refl
@@ -219,8 +219,8 @@ module _ (c : Config) (valid : validOf c ≡ true) (sent : List Message) (d : �
       by-kind false g restarts e = ap (λ r. told (record { is-write = false; register = r; restarts = restarts })) e
 
       by-activity : (a : Activity) → ((y : Result) → a ≡ ended y → RegisterRange c (y .register))
-          → called (toldAnswer (cond (eqb (operationFor a .mode) endedMode) (toldOf (operationFor a)) (untold Refusal.Idle)))
-          ≡ calledFor c (deskFor c d) (if-ended a (λ y. accept (told y) x) (refuse Refusal.Idle x))
+          → called (toldAnswer (cond (eqb (operationFor a .mode) endedMode) (toldOf (operationFor a)) (untold (refusal 9))))
+          ≡ calledFor c (deskFor c d) (if-ended a (λ y. accept (told y) x) (refuse 9 x))
       by-activity idle r = refl
       by-activity (running o) r = refl
       by-activity (ended y) r =
@@ -233,8 +233,8 @@ module _ (c : Config) (valid : validOf c ≡ true) (sent : List Message) (d : �
   drop-for = rw desk-fits (by-activity (x .activity))
     where
       by-activity : (a : Activity)
-          → deskCalled (cond (eqb (operationFor a .mode) runningMode) (accepted (dropped (deskFor c d x))) (refused Refusal.Idle (deskFor c d x)))
-          ≡ calledFor c (deskFor c d) (if-running a (λ o. accept done (droppedBy x)) (refuse Refusal.Idle x))
+          → deskCalled (cond (eqb (operationFor a .mode) runningMode) (accepted (dropped (deskFor c d x))) (refused (refusal 9) (deskFor c d x)))
+          ≡ calledFor c (deskFor c d) (if-running a (λ o. accept done (droppedBy x)) (refuse 9 x))
       by-activity idle = refl
       by-activity (running o) = refl
       by-activity (ended y) = refl

@@ -8,7 +8,7 @@ use borrow.Author.Tests.{eqb-true}
 use lib.Dec.{eqb}
 use Rattle.config.specs.Cluster.{validOf}
 use Rattle.config.specs.declared.cluster.Config.{Config}
-use Rattle.config.specs.declared.answer.Refusal.{Refusal}
+use Rattle.config.specs.Refusals.{refusal}
 use Rattle.ledger.specs.Joins.{lacks}
 use Rattle.replica.specs.declared.replica.Replica.{Replica as Pair}
 use Rattle.replica.specs.Replicas.{join}
@@ -86,7 +86,7 @@ module _ (c : Config) (valid : validOf c ≡ true) (d : ℕ) (x : PlainDesk) (h 
 
   -- what is done with a reply to the desk, timely or not
   abbrev answer : Bool → Heard
-  answer t = cond t (cond (clashes desk (replicaFor (m .replica))) (refused Refusal.Clash desk) effect) (late desk)
+  answer t = cond t (cond (clashes desk (replicaFor (m .replica))) (refused (refusal 6) desk) effect) (late desk)
 
   -- what the machine does with it
   abbrev plainAnswer : Activity → Outcome PlainDesk
@@ -115,15 +115,15 @@ module _ (c : Config) (valid : validOf c ≡ true) (d : ℕ) (x : PlainDesk) (h 
   fields-for = by-kinds (m .kind) refl
     where
       by-desk : m .kind ≡ reply → (t : Bool) → eqb (m .desk) d ≡ t
-          → Same (cond (not t) (refused Refusal.Stray desk) (answer (timely desk (envelopeFor m))))
-          (cond t (plainAnswer (x .activity)) (refuse Refusal.Stray x))
+          → Same (cond (not t) (refused (refusal 7) desk) (answer (timely desk (envelopeFor m))))
+          (cond t (plainAnswer (x .activity)) (refuse 7 x))
       by-desk e true f = reply-for e (eqb-true (m .desk) d f)
       by-desk e false f = refl
 
       by-kinds : (a : Kind) → m .kind ≡ a
-          → Same (cond (cond (eqb (kindNumber a) replyNumber) (not (eqb (m .desk) d)) true) (refused Refusal.Stray desk)
+          → Same (cond (cond (eqb (kindNumber a) replyNumber) (not (eqb (m .desk) d)) true) (refused (refusal 7) desk)
           (answer (timely desk (envelopeFor m))))
-          (by-kind a (refuse Refusal.Stray x) (cond (eqb (m .desk) d) (plainAnswer (x .activity)) (refuse Refusal.Stray x)) (refuse Refusal.Stray x))
+          (by-kind a (refuse 7 x) (cond (eqb (m .desk) d) (plainAnswer (x .activity)) (refuse 7 x)) (refuse 7 x))
       by-kinds request e = refl
       by-kinds reply e = by-desk e (eqb (m .desk) d) refl
       by-kinds share e = refl

@@ -11,7 +11,6 @@ use lib.Dec.{leb}
 use lib.ListN.{length}
 use Rattle.config.specs.Cluster.{validOf}
 use Rattle.config.specs.declared.cluster.Config.{Config}
-use Rattle.config.specs.declared.answer.Refusal.{Refusal}
 use Rattle.config.specs.declared.answer.Number.{Number}
 use Rattle.config.specs.declared.answer.Verdict.{Verdict}
 use Rattle.config.proofs.Clusters.{valid-bounds}
@@ -193,6 +192,6 @@ pub send-same : {A : Type 0} (c : Config) (x : A) (m : Message) (at size : ℕ) 
 unfolding send
 send-same c x m at size = by-room (leb (at + length (bytesOf c m)) size)
   where
-    by-room : (b : Bool) → cond b (record { answer = wrote (at + length (bytesOf c m)); party = x; sent = m ∷ [] }) (refuse Refusal.Narrow x) .party ≡ x
+    by-room : (b : Bool) → cond b (record { answer = wrote (at + length (bytesOf c m)); party = x; sent = m ∷ [] }) (refuse 13 x) .party ≡ x
     by-room true = refl
     by-room false = refl

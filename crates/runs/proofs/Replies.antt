@@ -8,7 +8,7 @@ use lib.Dec.{eqb, leb, ltb}
 use Rattle.quorums.proofs.Tests.{leb-not}
 use Rattle.config.specs.Cluster.{validOf, mostStamp}
 use Rattle.config.specs.declared.cluster.Config.{Config}
-use Rattle.config.specs.declared.answer.Refusal.{Refusal}
+use Rattle.config.specs.Refusals.{refusal}
 use Rattle.replica.specs.Values.{valueOf as bytesFor}
 use Rattle.desk.specs.declared.record.Desk.{Desk}
 use Rattle.desk.specs.declared.record.Heard.{Heard}
@@ -60,8 +60,8 @@ module _ (c : Config) (d : ℕ) (y : Replica) (k : ℕ) (o : Operation) where
   unfolding restartOf restart mapFor
   restart-for m =
       let p = replicaFor (join y (m .replica)) in
-      ap heardCalled (swapped mostRound k (accepted (restarted desk p)) (refused Refusal.Spent desk))
-      ∙ either (leb mostRound k) (refused Refusal.Spent desk) (accepted (restarted desk p)) (refuse Refusal.Spent (busy y k o))
+      ap heardCalled (swapped mostRound k (accepted (restarted desk p)) (refused (refusal 12) desk))
+      ∙ either (leb mostRound k) (refused (refusal 12) desk) (accepted (restarted desk p)) (refuse 12 (busy y k o))
       (accept done (plainRestarted (busy y k o) o m)) refl refl
 
   -- what phase 1 chooses
@@ -93,9 +93,9 @@ module _ (c : Config) (d : ℕ) (y : Replica) (k : ℕ) (o : Operation) where
   choose-for : (p : Replica) → Same (chooseOf desk (replicaFor p)) (choose c d (busy y k o) o p)
   unfolding chooseOf choose
   choose-for p =
-      let spent = refused Refusal.Spent desk in
+      let spent = refused (refusal 12) desk in
       let moves = accepted (chose desk (replicaFor p)) in
-      let plain-spent = refuse Refusal.Spent (busy y k o) in
+      let plain-spent = refuse 12 (busy y k o) in
       let plain-moves = accept done (moved-on d (busy y k o) o p) in
       let none-left = no-stamp c (o .task) (p .register) in
       ap heardCalled (swapped mostRound k (cond (noStamp desk (registerFor (p .register))) spent moves) spent)

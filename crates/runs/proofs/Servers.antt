@@ -10,7 +10,7 @@ use lib.ListN.{length}
 use Rattle.quorums.proofs.Tests.{eqb-comm, leb-not}
 use Rattle.config.specs.Cluster.{validOf}
 use Rattle.config.specs.declared.cluster.Config.{Config}
-use Rattle.config.specs.declared.answer.Refusal.{Refusal}
+use Rattle.config.specs.Refusals.{refusal}
 use Rattle.config.proofs.Clusters.{valid-server}
 use Rattle.ledger.specs.Changes.{lawful}
 use Rattle.message.specs.Answers.{fits as room}
@@ -91,13 +91,13 @@ module _ (c : Config) (valid : validOf c ≡ true) (i : ℕ) (below : i < c .n) 
       by-tests : (same inside some left above : Bool) → (inside ≡ true → j < 16)
           → serverCalled
           (cond (cond same false (cond inside some false))
-          (cond left (cond above (accepted (gave s j d)) (refused Refusal.Thin s)) (refused Refusal.Spent s))
-          (refused Refusal.BadTransfer s))
+          (cond left (cond above (accepted (gave s j d)) (refused (refusal 10) s)) (refused (refusal 12) s))
+          (refused (refusal 11) s))
           ≡ calledFor c (serverFor c i)
-          (cond same (refuse Refusal.BadTransfer x)
-          (cond (not inside) (refuse Refusal.BadTransfer x)
-          (cond (not some) (refuse Refusal.BadTransfer x)
-          (cond (not left) (refuse Refusal.Spent x) (cond above (accept done (given-away x i j d)) (refuse Refusal.Thin x))))))
+          (cond same (refuse 11 x)
+          (cond (not inside) (refuse 11 x)
+          (cond (not some) (refuse 11 x)
+          (cond (not left) (refuse 12 x) (cond above (accept done (given-away x i j d)) (refuse 10 x))))))
       by-tests true inside some left above l = refl
       by-tests false false some left above l = refl
       by-tests false true false left above l = refl
@@ -170,7 +170,7 @@ module _ (c : Config) (valid : validOf c ≡ true) (i : ℕ) (below : i < c .n) 
         -- a request for this server, and for another
         by-address : m .kind ≡ request → (b : Bool) → eqb (m .server) i ≡ b
             → servedCalled (serveFields s (envelopeFor m) (replicaFor (m .replica)) out place) place
-            ≡ calledFor c (serverFor c i) (cond b (answerRequest c i x m place (length out)) (refuse Refusal.Stray x))
+            ≡ calledFor c (serverFor c i) (cond b (answerRequest c i x m place (length out)) (refuse 7 x))
         by-address e true a =
             rw (fields-reply s (envelopeFor m) (replicaFor (m .replica)) out place (rw (e, a) refl) free (rw e refl)) (answer-for place out)
         by-address e false a = rw (fields-stray s (envelopeFor m) (replicaFor (m .replica)) out place (rw (e, a) refl)) refl
@@ -178,7 +178,7 @@ module _ (c : Config) (valid : validOf c ≡ true) (i : ℕ) (below : i < c .n) 
         by-kinds : (t : Kind) → m .kind ≡ t
             → servedCalled (serveFields s (envelopeFor m) (replicaFor (m .replica)) out place) place
             ≡ calledFor c (serverFor c i)
-            (by-kind t (cond (eqb (m .server) i) (answerRequest c i x m place (length out)) (refuse Refusal.Stray x)) (refuse Refusal.Stray x)
+            (by-kind t (cond (eqb (m .server) i) (answerRequest c i x m place (length out)) (refuse 7 x)) (refuse 7 x)
             (accept (wrote place) (served x m)))
         by-kinds request e = by-address e (eqb (m .server) i) refl
         by-kinds reply e = rw (fields-stray s (envelopeFor m) (replicaFor (m .replica)) out place (rw e refl)) refl

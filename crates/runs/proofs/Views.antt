@@ -11,7 +11,7 @@ use lib.ListN.{length}
 use Rattle.quorums.specs.Sum.{sum}
 use Rattle.config.specs.Cluster.{validOf}
 use Rattle.config.specs.declared.cluster.Config.{Config}
-use Rattle.config.specs.declared.answer.Refusal.{Refusal}
+use Rattle.config.specs.Refusals.{refusal}
 use Rattle.desk.specs.Desks.{numberLawful, fits, accepted, refused, freshDesk, blankDesk, opens, openOf as openDesk}
 use Rattle.desk.specs.Results.{resultOf}
 use Rattle.machine.specs.Parties.{Register, Phase, first, second, by-phase, Operation, Activity, idle, running, ended}
@@ -89,7 +89,7 @@ module _ (c : Config) (valid : validOf c ≡ true) (steps : List Step) (typed : 
     none-opened = by-tests (leb 1 d) (leb d 65535) (λ a b. other (record { some = leb-true 1 d a; most = leb-true d 65535 b }))
       where
         by-tests : (a b : Bool) → (a ≡ true → b ≡ true → ⊥)
-            → cond (cond (cond a b false) (validOf c) false) (accepted (freshDesk c d)) (refused Refusal.BadHouse blankDesk) .desk ≡ blankDesk
+            → cond (cond (cond a b false) (validOf c) false) (accepted (freshDesk c d)) (refused (refusal 1) blankDesk) .desk ≡ blankDesk
         by-tests true true n = absurd (n refl refl)
         by-tests true false n = refl
         by-tests false b n = refl

@@ -5,7 +5,7 @@ use Prim.Native.Nat.{ℕ}
 use mathlib.Core.Bool.{true, false, cond}
 use mathlib.Core.List.{List, [], _∷_}
 use lib.Dec.{eqb, ltb}
-use Rattle.config.specs.Refusals.{by-verdict}
+use Rattle.config.specs.Refusals.{by-verdict, numberOf}
 use Rattle.config.specs.declared.answer.Refusal.{Refusal}
 use Rattle.config.specs.declared.answer.Verdict.{Verdict}
 use Rattle.config.specs.declared.answer.Number.{Number}
@@ -40,15 +40,15 @@ by-number (NumberValue x) f g = f x
 by-number (NumberRefused k) f g = g k
 
 abbrev pub verdictAnswer : Verdict → Answer
-verdictAnswer v = by-verdict v done (λ k. refused k)
+verdictAnswer v = by-verdict v done (λ k. refused (numberOf k))
 
 abbrev pub numberAnswer : Number → Answer
-numberAnswer x = by-number x (λ next. wrote next) (λ k. refused k)
+numberAnswer x = by-number x (λ next. wrote next) (λ k. refused (numberOf k))
 
 abbrev pub hearingAnswer : Hearing → Answer
 hearingAnswer HearingAccepted = done
 hearingAnswer HearingLate = late
-hearingAnswer (HearingRefused k) = refused k
+hearingAnswer (HearingRefused k) = refused (numberOf k)
 
 -- a register as a tag and the bytes of its value
 abbrev pub plainRegister : Register → PlainRegister
@@ -60,7 +60,7 @@ toldAnswer t =
     by-verdict (t .verdict)
     (cond (eqb (t .kind) reading) (told (record { is-write = false; register = plainRegister (t .register); restarts = t .restarts }))
     (cond (eqb (t .kind) writing) (told (record { is-write = true; register = plainRegister (t .register); restarts = t .restarts })) unmade))
-    (λ k. refused k)
+    (λ k. refused (numberOf k))
 
 -- ---- what a call comes to
 

@@ -5,7 +5,7 @@ use mathlib.Core.List.{List}
 use lib.ListN.{length, getD}
 use lib.Dec.{leb}
 use Rattle.quorums.specs.Sum.{sum}
-use Rattle.config.specs.declared.answer.Refusal.{Refusal}
+use Rattle.config.specs.Refusals.{refusal}
 use Rattle.config.specs.declared.answer.Number.{Number}
 use Rattle.format.specs.Bytes.{bit}
 
@@ -18,4 +18,4 @@ offered block = sum (length block) (λ i. freeIn (getD block i 0))
 
 -- over 64 bytes: 14
 unfoldable pub offerAnswer : List ℕ → Number
-offerAnswer block = cond (leb (length block) 64) (Number.Value (offered block)) (Number.Refused Refusal.Long)
+offerAnswer block = cond (leb (length block) 64) (Number.Value (offered block)) (Number.Refused (refusal 14))

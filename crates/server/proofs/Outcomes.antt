@@ -6,7 +6,7 @@ use mathlib.Core.List.{List}
 use borrow.Author.Tests.{eqb-true}
 use lib.Dec.{eqb}
 use lib.ListN.{length}
-use Rattle.config.specs.Refusals.{by-verdict}
+use Rattle.config.specs.Refusals.{by-verdict, refusal}
 use Rattle.config.specs.declared.answer.Refusal.{Refusal}
 use Rattle.config.specs.declared.answer.Verdict.{Verdict}
 use Rattle.config.specs.declared.answer.Verdict.the-variants.{Accepted, Refused}
@@ -38,18 +38,18 @@ replied s e r out at = record { answer = place (reply s e r) out at .answer; ser
 
 -- P of each outcome of the fields of a message: 7, 6, a share, a reply, and 13
 pub record Does (P : Outcome → Type 0) (s : Server) (e : Envelope) (r : Replica) (out : List ℕ) (at : ℕ) : Type 0 where
-  pub strays : stray s e ≡ true → P (refuse Refusal.Stray s out)
-  pub clash : stray s e ≡ false → clashes s r ≡ true → P (refuse Refusal.Clash s out)
+  pub strays : stray s e ≡ true → P (refuse (refusal 7) s out)
+  pub clash : stray s e ≡ false → clashes s r ≡ true → P (refuse (refusal 6) s out)
   pub shares : Joins s e r → e .kind ≡ 3 → P (shared s r out at)
   pub replies : Joins s e r → eqb (e .kind) 3 ≡ false → room (length out) at (length (reply s e r)) ≡ true → P (replied s e r out at)
-  pub narrow : Joins s e r → eqb (e .kind) 3 ≡ false → room (length out) at (length (reply s e r)) ≡ false → P (refuse Refusal.Narrow s out)
+  pub narrow : Joins s e r → eqb (e .kind) 3 ≡ false → room (length out) at (length (reply s e r)) ≡ false → P (refuse (refusal 13) s out)
 
 module _ (P : Outcome → Type 0) (s : Server) (e : Envelope) (r : Replica) (out : List ℕ) (at : ℕ) (does : Does P s e r out at) where
   reply-cases : Joins s e r → eqb (e .kind) 3 ≡ false → P (replyOf s (joinedServer s r) (reply s e r) out at)
   unfolding replyOf
   reply-cases j k = by-room (room (length out) at (length (reply s e r))) refl
     where
-      by-room : (b : Bool) → room (length out) at (length (reply s e r)) ≡ b → P (cond b (replied s e r out at) (refuse Refusal.Narrow s out))
+      by-room : (b : Bool) → room (length out) at (length (reply s e r)) ≡ b → P (cond b (replied s e r out at) (refuse (refusal 13) s out))
       by-room true q = does .replies j k q
       by-room false q = does .narrow j k q
 
@@ -58,8 +58,8 @@ module _ (P : Outcome → Type 0) (s : Server) (e : Envelope) (r : Replica) (out
   fields-cases = by-tests (stray s e) refl (clashes s r) refl (eqb (e .kind) 3) refl
     where
       by-tests : (t : Bool) → stray s e ≡ t → (c : Bool) → clashes s r ≡ c → (k : Bool) → eqb (e .kind) 3 ≡ k
-          → P (cond t (refuse Refusal.Stray s out)
-          (cond c (refuse Refusal.Clash s out) (cond k (shared s r out at) (replyOf s (joinedServer s r) (reply s e r) out at))))
+          → P (cond t (refuse (refusal 7) s out)
+          (cond c (refuse (refusal 6) s out) (cond k (shared s r out at) (replyOf s (joinedServer s r) (reply s e r) out at))))
       by-tests true a c b k d = does .strays a
       by-tests false a true b k d = does .clash a b
       by-tests false a false b true d = does .shares (record { addressed = a; clear = b }) (eqb-true (e .kind) 3 d)
@@ -83,9 +83,9 @@ module _ (P : Outcome → Type 0) (s : Server) (msg out : List ℕ) (at : ℕ) w
       by-taken f (Refused k) d = left k
 
       by-fit : (b : Bool) → fits s ≡ b
-          → P (cond b (by-verdict (got .verdict) (serveFields s (got .envelope) (got .replica) out at) (λ k. refuse k s out)) (refuse Refusal.BadHouse s out))
+          → P (cond b (by-verdict (got .verdict) (serveFields s (got .envelope) (got .replica) out at) (λ k. refuse k s out)) (refuse (refusal 1) s out))
       by-fit true f = by-taken f (got .verdict) refl
-      by-fit false f = left Refusal.BadHouse
+      by-fit false f = left (refusal 1)
 
 -- The same where an accepted message needs no telling apart: a refusal that leaves all as it was, or the server after joining with a value and some
 -- buffer.
@@ -102,9 +102,9 @@ module _ (P : Outcome → Type 0) (s : Server) (msg out : List ℕ) (at : ℕ) w
   serve-either left joins =
       serve-cases P s msg out at left
       (λ f a. record {
-        strays = λ t. left Refusal.Stray;
-        clash = λ t c. left Refusal.Clash;
+        strays = λ t. left (refusal 7);
+        clash = λ t c. left (refusal 6);
         shares = λ j k. joins a (j .clear) _ _;
         replies = λ j k q. joins a (j .clear) _ _;
-        narrow = λ j k q. left Refusal.Narrow;
+        narrow = λ j k q. left (refusal 13);
       })

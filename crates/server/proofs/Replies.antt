@@ -8,7 +8,7 @@ use mathlib.Core.Bool.{Bool, true, false, cond, not, false≢true}
 use mathlib.Core.List.{List}
 use borrow.Author.Tests.{eqb-true}
 use lib.Dec.{eqb}
-use Rattle.config.specs.declared.answer.Refusal.{Refusal}
+use Rattle.config.specs.Refusals.{refusal}
 use Rattle.config.specs.declared.answer.Verdict.{Verdict}
 use Rattle.config.specs.declared.answer.Number.{Number}
 use Rattle.config.proofs.Clusters.{value-not-refused}
@@ -44,17 +44,17 @@ module _ (s : Server) (e : Envelope) (r : Replica) (out : List ℕ) (at : ℕ) w
   serve-addressed x =
       fields-cases (λ o. o .answer ≡ Number.Value x → (e .kind ≡ 3) ⊎ ((e .kind ≡ 1) × (e .server ≡ s .number))) s e r out at
       (record {
-        strays = λ t d. absurd (value-not-refused x Refusal.Stray (sym d));
-        clash = λ t c d. absurd (value-not-refused x Refusal.Clash (sym d));
+        strays = λ t d. absurd (value-not-refused x (refusal 7) (sym d));
+        clash = λ t c d. absurd (value-not-refused x (refusal 6) (sym d));
         shares = λ j k d. inl k;
         replies = λ j k q d. addressed-told s e (j .addressed);
-        narrow = λ j k q d. absurd (value-not-refused x Refusal.Narrow (sym d));
+        narrow = λ j k q d. absurd (value-not-refused x (refusal 13) (sym d));
       })
 
   -- 13 is told only of what is no stray and joins.
-  pub narrow-last : serveFields s e r out at .answer ≡ Number.Refused Refusal.Narrow → Joins s e r
+  pub narrow-last : serveFields s e r out at .answer ≡ Number.Refused (refusal 13) → Joins s e r
   narrow-last =
-      fields-cases (λ o. o .answer ≡ Number.Refused Refusal.Narrow → Joins s e r) s e r out at
+      fields-cases (λ o. o .answer ≡ Number.Refused (refusal 13) → Joins s e r) s e r out at
       (record {
         strays = λ t d. let z : _≡_ {A = ℕ} 0 1 = cc in absurd (omega arith);
         clash = λ t c d. let z : _≡_ {A = ℕ} 0 1 = cc in absurd (omega arith);
@@ -79,11 +79,11 @@ module _ (s : Server) (msg out : List ℕ) (at next : ℕ) (b : Bytes msg) (t : 
   serve-replies request =
       serve-cases (λ o. o .answer ≡ Number.Value next → Says o) s msg out at (λ k d. absurd (value-not-refused next k (sym d)))
       (λ f a. record {
-        strays = λ u d. absurd (value-not-refused next Refusal.Stray (sym d));
-        clash = λ u c d. absurd (value-not-refused next Refusal.Clash (sym d));
+        strays = λ u d. absurd (value-not-refused next (refusal 7) (sym d));
+        clash = λ u c d. absurd (value-not-refused next (refusal 6) (sym d));
         shares = λ j k d. absurd (omega arith);
         replies = λ j k q d.
             ap (receiveOf (s .config)) (placed-message (reply s (got .envelope) (got .replica)) out at next d)
             ∙ reply-back s (got .envelope) (got .replica) t f (receive-told (s .config) msg b a) request (j .clear);
-        narrow = λ j k q d. absurd (value-not-refused next Refusal.Narrow (sym d));
+        narrow = λ j k q d. absurd (value-not-refused next (refusal 13) (sym d));
       })

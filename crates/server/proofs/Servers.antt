@@ -5,7 +5,7 @@ use mathlib.Core.Path.{_≡_, refl, sym}
 use mathlib.Core.Bool.{Bool, true, false, cond}
 use Rattle.quorums.proofs.Tests.{both}
 use Rattle.config.specs.Cluster.{configOf, serverOf}
-use Rattle.config.specs.declared.answer.Refusal.{Refusal}
+use Rattle.config.specs.Refusals.{refusal}
 use Rattle.config.specs.declared.answer.Verdict.{Verdict}
 use Rattle.config.proofs.Clusters.{server-valid}
 use Rattle.ledger.proofs.Checks.{accepted-not-refused}
@@ -36,7 +36,7 @@ told-fits s t = simp (t .server-in, t .replica-fits)
 
 -- what `open` answers
 abbrev opened : ℕ → ℕ → ℕ → Bool → ServerAnswer
-opened n f i b = cond b (accepted (freshServer (configOf n f) i)) (refused Refusal.BadHouse blankServer)
+opened n f i b = cond b (accepted (freshServer (configOf n f) i)) (refused (refusal 1) blankServer)
 
 pub open-fits : (n f i : ℕ) → openOf n f i .verdict ≡ Verdict.Accepted → fits (openOf n f i .server) ≡ true
 unfolding openOf

@@ -9,6 +9,7 @@ use mathlib.Core.List.{List}
 use borrow.Author.Tests.{lt-ltb, eq-eqb, ne-eqb}
 use lib.Dec.{eqb}
 use lib.ListN.{length}
+use Rattle.config.specs.Refusals.{refusal}
 use Rattle.config.specs.declared.answer.Refusal.{Refusal}
 use Rattle.config.specs.declared.answer.Verdict.{Verdict}
 use Rattle.config.specs.declared.answer.Number.{Number}
@@ -187,7 +188,7 @@ unfolding serveFields
 serve-share s e r out at k = rw (eq-eqb (e .kind) 3 k) (by-tests (stray s e) (clashes s r))
   where
     by-tests : (t c : Bool)
-        → cond t (refuse Refusal.Stray s out) (cond c (refuse Refusal.Clash s out) (shared s r out at)) .out ≡ out
+        → cond t (refuse (refusal 7) s out) (cond c (refuse (refusal 6) s out) (shared s r out at)) .out ≡ out
     by-tests true c = refl
     by-tests false true = refl
     by-tests false false = refl

@@ -6,7 +6,7 @@ use mathlib.Core.Bool.{Bool, true, false, cond}
 use mathlib.Core.List.{List}
 use borrow.Author.Tests.{lt-ltb}
 use lib.ListN.{length}
-use Rattle.config.specs.declared.answer.Refusal.{Refusal}
+use Rattle.config.specs.Refusals.{refusal}
 use Rattle.config.specs.declared.answer.Verdict.{Verdict}
 use Rattle.config.specs.declared.answer.Number.{Number}
 use Rattle.config.proofs.Clusters.{server-valid, server-small, value-not-refused}
@@ -62,12 +62,12 @@ unfolding shareOf
 accepted-told s out at next = by-fit (fits s)
   where
     left : Written
-    left = record { answer = Number.Refused Refusal.BadHouse; out = out }
+    left = record { answer = Number.Refused (refusal 1); out = out }
 
     by-fit : (b : Bool) → cond b (place (shareMessage s) out at) left .answer ≡ Number.Value next
         → (b ≡ true) × (cond b (place (shareMessage s) out at) left ≡ place (shareMessage s) out at)
     by-fit true d = (refl, refl)
-    by-fit false d = absurd (value-not-refused next Refusal.BadHouse (sym d))
+    by-fit false d = absurd (value-not-refused next (refusal 1) (sym d))
 
 -- The bytes that an accepted share left in the buffer, from the place given up to the place handed back, read back to what was meant.
 pub share-shares : (s : Server) (out : List ℕ) (at next : ℕ) → Typed s → shareOf s out at .answer ≡ Number.Value next

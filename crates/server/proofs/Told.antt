@@ -7,6 +7,7 @@ use mathlib.Core.List.{List}
 use lib.Dec.{eqb, ltb}
 use lib.ListN.{length}
 use Rattle.config.specs.Cluster.{validOf}
+use Rattle.config.specs.Refusals.{refusal}
 use Rattle.config.specs.declared.answer.Refusal.{Refusal}
 use Rattle.config.specs.declared.answer.Verdict.{Verdict}
 use Rattle.config.specs.declared.answer.Verdict.the-variants.{Accepted, Refused}
@@ -36,8 +37,8 @@ unfolding joinAnswer joinOf clashes
 join-rest s r v l = rw (v, le-ltb _ _ l) (by-test (joinable (s .config) (s .replica) r))
   where
     by-test : (j : Bool)
-        → cond j (accepted (join (s .replica) r)) (notJoined Refusal.Clash (s .replica))
-        ≡ cond (not j) (notJoined Refusal.Clash (s .replica)) (accepted (join (s .replica) r))
+        → cond j (accepted (join (s .replica) r)) (notJoined (refusal 6) (s .replica))
+        ≡ cond (not j) (notJoined (refusal 6) (s .replica)) (accepted (join (s .replica) r))
     by-test true = refl
     by-test false = refl
 
@@ -82,14 +83,14 @@ refuse-told x o k s out d e = (
 
 pub fields-stray : (s : Server) (e : Envelope) (r : Replica) (out : List ℕ) (at : ℕ)
     → stray s e ≡ true
-    → serveFields s e r out at ≡ refuse Refusal.Stray s out
+    → serveFields s e r out at ≡ refuse (refusal 7) s out
 unfolding serveFields
 fields-stray s e r out at t = rw t refl
 
 pub fields-clash : (s : Server) (e : Envelope) (r : Replica) (out : List ℕ) (at : ℕ)
     → stray s e ≡ false
     → clashes s r ≡ true
-    → serveFields s e r out at ≡ refuse Refusal.Clash s out
+    → serveFields s e r out at ≡ refuse (refusal 6) s out
 unfolding serveFields
 fields-clash s e r out at t c = rw (t, c) refl
 
@@ -117,14 +118,14 @@ pub reply-written : (s t : Server) (m out : List ℕ) (at : ℕ)
 unfolding replyOf
 reply-written s t m out at b = rw b refl
 
-pub reply-narrow : (s t : Server) (m out : List ℕ) (at : ℕ) → room (length out) at (length m) ≡ false → replyOf s t m out at ≡ refuse Refusal.Narrow s out
+pub reply-narrow : (s t : Server) (m out : List ℕ) (at : ℕ) → room (length out) at (length m) ≡ false → replyOf s t m out at ≡ refuse (refusal 13) s out
 unfolding replyOf
 reply-narrow s t m out at b = rw b refl
 
 -- ---- serve of a message
 
 module _ (s : Server) (msg out : List ℕ) (at : ℕ) where
-  pub serve-unfit : fits s ≡ false → serveOf s msg out at ≡ refuse Refusal.BadHouse s out
+  pub serve-unfit : fits s ≡ false → serveOf s msg out at ≡ refuse (refusal 1) s out
   unfolding serveOf
   serve-unfit f = rw f refl
 

@@ -15,6 +15,7 @@ use Rattle.quorums.proofs.Differences.{difference-up, difference-less, differen
 use Rattle.quorums.proofs.Weights.{above-grows}
 use Rattle.config.specs.Cluster.{validOf, startOf, totalOf, aboveOf, leastOf, mostWeight}
 use Rattle.config.specs.declared.cluster.Config.{Config}
+use Rattle.config.specs.Refusals.{refusal}
 use Rattle.config.specs.declared.answer.Refusal.{Refusal}
 use Rattle.config.specs.declared.answer.Verdict.{Verdict}
 use Rattle.config.proofs.Clusters.{valid-bounds, server-valid, server-small, total-small, above-least}
@@ -166,12 +167,12 @@ transfer-cases P s j d done left =
     by-tests : (f w t p : Bool) → fits s ≡ f → lawful (s .config) (s .number) j d ≡ w
         → ltb (countOf (s .replica .ledger) (s .number)) mostCount ≡ t
         → spares (s .config) (s .replica .ledger) (s .number) d ≡ p
-        → P (cond f (cond w (cond t (cond p (accepted (gave s j d)) (refused Refusal.Thin s)) (refused Refusal.Spent s)) (refused Refusal.BadTransfer s)) (refused Refusal.BadHouse s))
+        → P (cond f (cond w (cond t (cond p (accepted (gave s j d)) (refused (refusal 10) s)) (refused (refusal 12) s)) (refused (refusal 11) s)) (refused (refusal 1) s))
     by-tests true true true true e a b c = done e (record { legal = a; counted = ltb-true _ _ b; spared = c })
-    by-tests true true true false e a b c = left Refusal.Thin
-    by-tests true true false p e a b c = left Refusal.Spent
-    by-tests true false t p e a b c = left Refusal.BadTransfer
-    by-tests false w t p e a b c = left Refusal.BadHouse
+    by-tests true true true false e a b c = left (refusal 10)
+    by-tests true true false p e a b c = left (refusal 12)
+    by-tests true false t p e a b c = left (refusal 11)
+    by-tests false w t p e a b c = left (refusal 1)
 
 -- a refusal leaves the record as it was
 pub transfer-refused : (s : Server) (j d : ℕ) (k : Refusal) → transferOf s j d .verdict ≡ Verdict.Refused k → transferOf s j d .server ≡ s

@@ -4,6 +4,7 @@ use mathlib.Core.Bool.{Bool, false, cond}
 use Rattle.config.specs.Cluster.{configOf, serverOf}
 use Rattle.config.specs.declared.cluster.Config.{Config}
 use Rattle.config.specs.declared.answer.Refusal.{Refusal}
+use Rattle.config.specs.Refusals.{refusal}
 use Rattle.config.specs.declared.answer.Verdict.{Verdict}
 use Rattle.replica.specs.declared.replica.Replica.{Replica}
 use Rattle.replica.specs.Replicas.{freshReplica, fits as fitsReplica, Typed as TypedReplica}
@@ -35,7 +36,7 @@ blankServer = freshServer (configOf 0 0) 0
 
 -- Open: a fresh record, or 1.
 unfoldable pub openOf : ℕ → ℕ → ℕ → ServerAnswer
-openOf n f i = cond (serverOf (configOf n f) i) (accepted (freshServer (configOf n f) i)) (refused Refusal.BadHouse blankServer)
+openOf n f i = cond (serverOf (configOf n f) i) (accepted (freshServer (configOf n f) i)) (refused (refusal 1) blankServer)
 
 -- A record that a call can have: arrays have their lengths, and each number fits its type.
 pub record Typed (s : Server) : Type 0 where

@@ -5,7 +5,7 @@ use mathlib.Core.Bool.{Bool, true, false, cond, not}
 use mathlib.Core.List.{List}
 use lib.Dec.{eqb, ltb}
 use lib.ListN.{length}
-use Rattle.config.specs.Refusals.{by-verdict}
+use Rattle.config.specs.Refusals.{by-verdict, refusal}
 use Rattle.config.specs.declared.answer.Refusal.{Refusal}
 use Rattle.config.specs.declared.answer.Number.{Number}
 use Rattle.ledger.specs.Ledgers.{countOf}
@@ -43,7 +43,7 @@ clashes s r = cond (ltb (countOf (s .replica .ledger) (s .number)) (countOf (r .
 
 -- what the server holds, joined with r, or 6
 unfoldable pub joinOf : Server → Replica → Joined
-joinOf s r = cond (clashes s r) (notJoined Refusal.Clash (s .replica)) (accepted (join (s .replica) r))
+joinOf s r = cond (clashes s r) (notJoined (refusal 6) (s .replica)) (accepted (join (s .replica) r))
 
 -- the server after joining
 abbrev pub joinedServer : Server → Replica → Server
@@ -61,13 +61,13 @@ replyMessage t e = messageOf (t .config) (replyEnvelope t e) (t .replica)
 unfoldable pub replyOf : Server → Server → List ℕ → List ℕ → ℕ → Outcome
 replyOf s t m out at =
     cond (room (length out) at (length m)) (record { answer = place m out at .answer; server = t; out = place m out at .out })
-    (refuse Refusal.Narrow s out)
+    (refuse (refusal 13) s out)
 
 -- serve of the fields of a message
 unfoldable pub serveFields : Server → Envelope → Replica → List ℕ → ℕ → Outcome
 serveFields s e r out at =
-    cond (stray s e) (refuse Refusal.Stray s out)
-    (cond (clashes s r) (refuse Refusal.Clash s out)
+    cond (stray s e) (refuse (refusal 7) s out)
+    (cond (clashes s r) (refuse (refusal 6) s out)
     (cond (eqb (e .kind) share) (record { answer = Number.Value at; server = joinedServer s r; out = out })
     (replyOf s (joinedServer s r) (replyMessage (joinedServer s r) e) out at)))
 
@@ -75,4 +75,4 @@ unfoldable pub serveOf : Server → List ℕ → List ℕ → ℕ → Outcome
 serveOf s msg out at =
     cond (fits s)
     (let x = receiveOf (s .config) msg in by-verdict (x .verdict) (serveFields s (x .envelope) (x .replica) out at) (λ k. refuse k s out))
-    (refuse Refusal.BadHouse s out)
+    (refuse (refusal 1) s out)

@@ -2,7 +2,7 @@
 use Prim.Native.Nat.{ℕ}
 use mathlib.Core.Bool.{cond}
 use mathlib.Core.List.{List}
-use Rattle.config.specs.declared.answer.Refusal.{Refusal}
+use Rattle.config.specs.Refusals.{refusal}
 use Rattle.config.specs.declared.answer.Number.{Number}
 use Rattle.replica.specs.declared.envelope.Envelope.{Envelope}
 use Rattle.replica.specs.Envelopes.{share, messageOf, Written, place}
@@ -18,4 +18,4 @@ abbrev pub shareMessage : Server → List ℕ
 shareMessage s = messageOf (s .config) (shareEnvelope s) (s .replica)
 
 unfoldable pub shareOf : Server → List ℕ → ℕ → Written
-shareOf s out at = cond (fits s) (place (shareMessage s) out at) (record { answer = Number.Refused Refusal.BadHouse; out = out })
+shareOf s out at = cond (fits s) (place (shareMessage s) out at) (record { answer = Number.Refused (refusal 1); out = out })

@@ -5,7 +5,7 @@ use lib.Dec.{ltb}
 use lib.IntN.{pos, _-ℤ_}
 use Rattle.config.specs.Cluster.{aboveOf}
 use Rattle.config.specs.declared.cluster.Config.{Config}
-use Rattle.config.specs.declared.answer.Refusal.{Refusal}
+use Rattle.config.specs.Refusals.{refusal}
 use Rattle.ledger.specs.declared.ledger.Ledger.{Ledger}
 use Rattle.ledger.specs.Ledgers.{countOf}
 use Rattle.ledger.specs.Weights.{weightOf}
@@ -31,9 +31,9 @@ unfoldable pub giveOf : Server → ℕ → ℕ → ServerAnswer
 giveOf s j d =
     cond (lawful (s .config) (s .number) j d)
     (cond (ltb (countOf (s .replica .ledger) (s .number)) mostCount)
-    (cond (spares (s .config) (s .replica .ledger) (s .number) d) (accepted (gave s j d)) (refused Refusal.Thin s))
-    (refused Refusal.Spent s))
-    (refused Refusal.BadTransfer s)
+    (cond (spares (s .config) (s .replica .ledger) (s .number) d) (accepted (gave s j d)) (refused (refusal 10) s))
+    (refused (refusal 12) s))
+    (refused (refusal 11) s)
 
 unfoldable pub transferOf : Server → ℕ → ℕ → ServerAnswer
-transferOf s j d = cond (fits s) (giveOf s j d) (refused Refusal.BadHouse s)
+transferOf s j d = cond (fits s) (giveOf s j d) (refused (refusal 1) s)

@@ -8,6 +8,7 @@ use Rattle.quorums.specs.Sum.{sum, all}
 use Rattle.quorums.specs.Difference.{difference}
 use Rattle.quorums.specs.Accounts.{weight, above}
 use Rattle.config.specs.Cluster.{configOf, validOf, serverOf, startOf, totalOf, aboveOf}
+use Rattle.config.specs.Refusals.{refusal}
 use Rattle.config.specs.declared.answer.Refusal.{Refusal}
 use Rattle.config.specs.declared.answer.Number.{Number}
 use Rattle.ledger.specs.Ledgers.{freshLedger, givenOf, receivedOf}
@@ -61,40 +62,40 @@ unwritten k out = record { answer = Number.Refused k; out = out }
 
 pub record BadCalls : Type 0 where
   -- open, 1: n = 0, n = 17, 2f = n, number = n, and numbers at their ends
-  pub no-server : openOf 0 0 0 ≡ refused Refusal.BadHouse blankServer
-  pub seventeen-servers : openOf 17 0 0 ≡ refused Refusal.BadHouse blankServer
-  pub half-crash : openOf 4 2 0 ≡ refused Refusal.BadHouse blankServer
-  pub number-past-last : openOf 5 1 5 ≡ refused Refusal.BadHouse blankServer
-  pub most-servers : openOf most 0 0 ≡ refused Refusal.BadHouse blankServer
-  pub most-crashes : openOf 5 most 0 ≡ refused Refusal.BadHouse blankServer
-  pub most-number : openOf 5 1 most ≡ refused Refusal.BadHouse blankServer
+  pub no-server : openOf 0 0 0 ≡ refused (refusal 1) blankServer
+  pub seventeen-servers : openOf 17 0 0 ≡ refused (refusal 1) blankServer
+  pub half-crash : openOf 4 2 0 ≡ refused (refusal 1) blankServer
+  pub number-past-last : openOf 5 1 5 ≡ refused (refusal 1) blankServer
+  pub most-servers : openOf most 0 0 ≡ refused (refusal 1) blankServer
+  pub most-crashes : openOf 5 most 0 ≡ refused (refusal 1) blankServer
+  pub most-number : openOf 5 1 most ≡ refused (refusal 1) blankServer
   pub last-server : openOf 16 7 15 ≡ accepted (freshServer (configOf 16 7) 15)
   -- transfer, 11: to itself, to a server ≥ n, of nothing
-  pub to-itself : transferOf fresh 0 1 ≡ refused Refusal.BadTransfer fresh
-  pub past-last : transferOf fresh 5 1 ≡ refused Refusal.BadTransfer fresh
-  pub most-taker : transferOf fresh most 1 ≡ refused Refusal.BadTransfer fresh
-  pub of-nothing : transferOf fresh 1 0 ≡ refused Refusal.BadTransfer fresh
+  pub to-itself : transferOf fresh 0 1 ≡ refused (refusal 11) fresh
+  pub past-last : transferOf fresh 5 1 ≡ refused (refusal 11) fresh
+  pub most-taker : transferOf fresh most 1 ≡ refused (refusal 11) fresh
+  pub of-nothing : transferOf fresh 1 0 ≡ refused (refusal 11) fresh
   -- 12: the count is 65,535, though every weight is 1,000
-  pub spent : transferOf (exchanged 65535 65535) 1 1 ≡ refused Refusal.Spent (exchanged 65535 65535)
+  pub spent : transferOf (exchanged 65535 65535) 1 1 ≡ refused (refusal 12) (exchanged 65535 65535)
   pub last-count : transferOf (exchanged 65534 65534) 1 1 ≡ accepted (exchanged 65535 65534)
   -- 10
-  pub most-amount : transferOf fresh 1 most ≡ refused Refusal.Thin fresh
+  pub most-amount : transferOf fresh 1 most ≡ refused (refusal 10) fresh
   -- 11 before 12, and 12 before 10
-  pub taker-first : transferOf (exchanged 65535 65535) 0 1 ≡ refused Refusal.BadTransfer (exchanged 65535 65535)
-  pub count-first : transferOf (exchanged 65535 65535) 1 most ≡ refused Refusal.Spent (exchanged 65535 65535)
+  pub taker-first : transferOf (exchanged 65535 65535) 0 1 ≡ refused (refusal 11) (exchanged 65535 65535)
+  pub count-first : transferOf (exchanged 65535 65535) 1 most ≡ refused (refusal 12) (exchanged 65535 65535)
   -- 1 before all else: the number, a light sheet, and a register out of bounds
-  pub number-out : transferOf sixth 1 1 ≡ refused Refusal.BadHouse sixth
-  pub light-sheet : transferOf light 1 1 ≡ refused Refusal.BadHouse light
-  pub bad-register : transferOf stampless 1 1 ≡ refused Refusal.BadHouse stampless
-  pub record-first : transferOf light 0 0 ≡ refused Refusal.BadHouse light
+  pub number-out : transferOf sixth 1 1 ≡ refused (refusal 1) sixth
+  pub light-sheet : transferOf light 1 1 ≡ refused (refusal 1) light
+  pub bad-register : transferOf stampless 1 1 ≡ refused (refusal 1) stampless
+  pub record-first : transferOf light 0 0 ≡ refused (refusal 1) light
   -- share, 13: a byte too short, and a place past the end
-  pub too-short : shareOf fresh (replicate 6 0xAA) 3 ≡ unwritten Refusal.Narrow (replicate 6 0xAA)
+  pub too-short : shareOf fresh (replicate 6 0xAA) 3 ≡ unwritten (refusal 13) (replicate 6 0xAA)
   pub long-enough : shareOf fresh (replicate 7 0xAA) 3
       ≡ record { answer = Number.Value 7; out = replicate 3 0xAA ++ (0x00 ∷ 0x03 ∷ 0x03 ∷ 0x00 ∷ []) }
-  pub past-end : shareOf fresh (replicate 6 0xAA) 7 ≡ unwritten Refusal.Narrow (replicate 6 0xAA)
-  pub most-place : shareOf fresh (replicate 6 0xAA) most ≡ unwritten Refusal.Narrow (replicate 6 0xAA)
+  pub past-end : shareOf fresh (replicate 6 0xAA) 7 ≡ unwritten (refusal 13) (replicate 6 0xAA)
+  pub most-place : shareOf fresh (replicate 6 0xAA) most ≡ unwritten (refusal 13) (replicate 6 0xAA)
   -- 1 before it
-  pub share-light : shareOf light (replicate 6 0xAA) 7 ≡ unwritten Refusal.BadHouse (replicate 6 0xAA)
+  pub share-light : shareOf light (replicate 6 0xAA) 7 ≡ unwritten (refusal 1) (replicate 6 0xAA)
 
 pub bad-calls : BadCalls
 unfolding openOf serverOf validOf transferOf giveOf spares lawful added fits fitsReplica fitsRegister registerFits registerMark bounded mayHold totalFits

@@ -9,7 +9,7 @@ use Rattle.quorums.specs.Sum.{size, sum, sumℤ, all}
 use Rattle.quorums.specs.Difference.{difference}
 use Rattle.quorums.specs.Accounts.{weight, total, weightIn, margin, quorum, above}
 use Rattle.config.specs.Cluster.{configOf, validOf, serverOf, startOf, totalOf, aboveOf, stampBytes}
-use Rattle.config.specs.declared.answer.Refusal.{Refusal}
+use Rattle.config.specs.Refusals.{refusal}
 use Rattle.config.specs.declared.answer.Number.{Number}
 use Rattle.config.specs.declared.answer.Decision.{Decision}
 use Rattle.config.specs.declared.answer.Verdict.{Verdict}
@@ -91,15 +91,15 @@ pub record Cases : Type 0 where
   -- "1: n=5 f=1, giving 374 of 1,000 passes"
   pub case-1 : Gives 5 1 374 Verdict.Accepted
   -- "2: 375 is 10"
-  pub case-2 : Gives 5 1 375 (Verdict.Refused Refusal.Thin)
+  pub case-2 : Gives 5 1 375 (Verdict.Refused (refusal 10))
   -- "3: n=4 f=1, 333 passes"
   pub case-3 : Gives 4 1 333 Verdict.Accepted
   -- "4: 334 is 10"
-  pub case-4 : Gives 4 1 334 (Verdict.Refused Refusal.Thin)
+  pub case-4 : Gives 4 1 334 (Verdict.Refused (refusal 10))
   -- "5: n=16 f=7, 111 passes"
   pub case-5 : Gives 16 7 111 Verdict.Accepted
   -- "6: 112 is 10"
-  pub case-6 : Gives 16 7 112 (Verdict.Refused Refusal.Thin)
+  pub case-6 : Gives 16 7 112 (Verdict.Refused (refusal 10))
   -- "7: n=4, two fresh servers aren't a quorum": any two, and any lawful f
   pub case-7 : (f m : ℕ) → validOf (configOf 4 f) ≡ true → m < 2 ^ 4 → size 4 (named m) ≡ 2 → quorumAnswer (configOf 4 f) freshLedger m ≡ Decision.No
   -- "8: n=5 f=1, after 0 and 1 each give 374 to 2, servers 2 and 4 are"

@@ -8,7 +8,7 @@ use lib.IntN.{pos, _-ℤ_}
 use Rattle.quorums.specs.Difference.{difference}
 use Rattle.config.specs.Cluster.{configOf, validOf, startOf, aboveOf}
 use Rattle.config.specs.declared.cluster.Config.{Config}
-use Rattle.config.specs.declared.answer.Refusal.{Refusal}
+use Rattle.config.specs.Refusals.{refusal}
 use Rattle.config.specs.declared.answer.Verdict.{Verdict}
 use Rattle.config.proofs.Clusters.{valid-server}
 use Rattle.ledger.specs.Ledgers.{freshLedger, countOf}
@@ -44,7 +44,7 @@ spared c i d = ap (λ w. aboveOf c (w -ℤ pos d)) (fresh-weight c i)
 
 -- what the floor says of it
 unfoldable pub byFloor : Config → ℕ → Verdict
-byFloor c d = cond (aboveOf c (difference 1000 0 -ℤ pos d)) Verdict.Accepted (Verdict.Refused Refusal.Thin)
+byFloor c d = cond (aboveOf c (difference 1000 0 -ℤ pos d)) Verdict.Accepted (Verdict.Refused (refusal 10))
 
 fresh-gives : (c : Config) (i j d : ℕ) → validOf c ≡ true → i < c .n → j < c .n → (i ≡ j → ⊥) → 1 ≤ d
     → transferOf (freshServer c i) j d .verdict ≡ byFloor c d
@@ -53,8 +53,8 @@ fresh-gives c i j d v hi hj ne p =
     rw (fresh-fits c i v hi, is-lawful c i j d hj ne p, has-room i, spared c i d) (chosen (aboveOf c (difference 1000 0 -ℤ pos d)))
   where
     chosen : (b : Bool)
-        → cond b (accepted (gave (freshServer c i) j d)) (refused Refusal.Thin (freshServer c i)) .verdict
-        ≡ cond b Verdict.Accepted (Verdict.Refused Refusal.Thin)
+        → cond b (accepted (gave (freshServer c i) j d)) (refused (refusal 10) (freshServer c i)) .verdict
+        ≡ cond b Verdict.Accepted (Verdict.Refused (refusal 10))
     chosen true = refl
     chosen false = refl
 

@@ -10,7 +10,7 @@ use Rattle.quorums.specs.Difference.{difference}
 use Rattle.quorums.specs.Accounts.{weight, total, weightIn, margin, above}
 use Rattle.config.specs.Cluster.{configOf, validOf, serverOf, startOf, totalOf, aboveOf, leastOf, startAnswer, totalAnswer, leastAnswer, aboveAnswer}
 use Rattle.config.specs.declared.cluster.Config.{Config}
-use Rattle.config.specs.declared.answer.Refusal.{Refusal}
+use Rattle.config.specs.Refusals.{refusal}
 use Rattle.config.specs.declared.answer.Number.{Number}
 use Rattle.config.specs.declared.answer.Signed.{Signed}
 use Rattle.config.specs.declared.answer.Decision.{Decision}
@@ -35,12 +35,12 @@ five = configOf 5 1
 -- ---- the cluster: n = 0, n = 17, 2f = n, and both numbers at their ends
 
 pub record BadClusters : Type 0 where
-  pub none : totalAnswer (configOf 0 0) ≡ Number.Refused Refusal.BadHouse
-  pub seventeen : totalAnswer (configOf 17 0) ≡ Number.Refused Refusal.BadHouse
-  pub half : totalAnswer (configOf 4 2) ≡ Number.Refused Refusal.BadHouse
-  pub half-of-most : leastAnswer (configOf 16 8) ≡ Number.Refused Refusal.BadHouse
-  pub most-servers : startAnswer (configOf most 0) 0 ≡ Number.Refused Refusal.BadHouse
-  pub most-crashes : aboveAnswer (configOf 5 most) (pos 1000) ≡ Decision.Refused Refusal.BadHouse
+  pub none : totalAnswer (configOf 0 0) ≡ Number.Refused (refusal 1)
+  pub seventeen : totalAnswer (configOf 17 0) ≡ Number.Refused (refusal 1)
+  pub half : totalAnswer (configOf 4 2) ≡ Number.Refused (refusal 1)
+  pub half-of-most : leastAnswer (configOf 16 8) ≡ Number.Refused (refusal 1)
+  pub most-servers : startAnswer (configOf most 0) 0 ≡ Number.Refused (refusal 1)
+  pub most-crashes : aboveAnswer (configOf 5 most) (pos 1000) ≡ Decision.Refused (refusal 1)
   pub smallest : totalAnswer (configOf 1 0) ≡ Number.Value 1000
   pub largest : totalAnswer (configOf 16 7) ≡ Number.Value 16000
 
@@ -74,12 +74,12 @@ floor = record { at = refl; over = refl; least = refl; negative = refl; last = r
 -- ---- servers and maps that there aren't
 
 pub record BadServers : Type 0 where
-  pub server : weightAnswer five freshLedger 5 ≡ Signed.Refused Refusal.BadHouse
-  pub last-server : givenAnswer five freshLedger most ≡ Number.Refused Refusal.BadHouse
-  pub received : receivedAnswer five freshLedger 5 ≡ Number.Refused Refusal.BadHouse
-  pub bit : marginAnswer five freshLedger (2 ^ 5) ≡ Signed.Refused Refusal.BadHouse
-  pub all-bits : quorumAnswer five freshLedger (2 ^ 16 - 1) ≡ Decision.Refused Refusal.BadHouse
-  pub named-bit : namedAnswer five (2 ^ 5) ≡ Number.Refused Refusal.BadHouse
+  pub server : weightAnswer five freshLedger 5 ≡ Signed.Refused (refusal 1)
+  pub last-server : givenAnswer five freshLedger most ≡ Number.Refused (refusal 1)
+  pub received : receivedAnswer five freshLedger 5 ≡ Number.Refused (refusal 1)
+  pub bit : marginAnswer five freshLedger (2 ^ 5) ≡ Signed.Refused (refusal 1)
+  pub all-bits : quorumAnswer five freshLedger (2 ^ 16 - 1) ≡ Decision.Refused (refusal 1)
+  pub named-bit : namedAnswer five (2 ^ 5) ≡ Number.Refused (refusal 1)
   pub named-all : namedAnswer five (2 ^ 5 - 1) ≡ Number.Value 5
   pub nobody : marginAnswer five freshLedger 0 ≡ Signed.Value (negsuc 4999)
   pub two-of-four : marginAnswer (configOf 4 1) freshLedger 3 ≡ Signed.Value (pos 0)
@@ -107,13 +107,13 @@ abbrev gave : ℕ → ℕ → Ledger
 gave m x = record { counts = set (replicate 16 0) 0 m; cells = set (replicate 256 0) 1 x }
 
 pub record BadTransfers : Type 0 where
-  pub giver : addAnswer five freshLedger 5 0 1 ≡ refused Refusal.BadHouse freshLedger
-  pub self-taker : addAnswer five freshLedger 0 0 1 ≡ refused Refusal.BadTransfer freshLedger
-  pub taker : addAnswer five freshLedger 0 5 1 ≡ refused Refusal.BadTransfer freshLedger
-  pub nothing : addAnswer five freshLedger 0 1 0 ≡ refused Refusal.BadTransfer freshLedger
-  pub count : addAnswer five (gave 65535 70000) 0 1 1 ≡ refused Refusal.Spent (gave 65535 70000)
-  pub cell : addAnswer five (gave 1 4294967295) 0 1 1 ≡ refused Refusal.Spent (gave 1 4294967295)
-  pub amount : addAnswer five freshLedger 0 1 most ≡ refused Refusal.Spent freshLedger
+  pub giver : addAnswer five freshLedger 5 0 1 ≡ refused (refusal 1) freshLedger
+  pub self-taker : addAnswer five freshLedger 0 0 1 ≡ refused (refusal 11) freshLedger
+  pub taker : addAnswer five freshLedger 0 5 1 ≡ refused (refusal 11) freshLedger
+  pub nothing : addAnswer five freshLedger 0 1 0 ≡ refused (refusal 11) freshLedger
+  pub count : addAnswer five (gave 65535 70000) 0 1 1 ≡ refused (refusal 12) (gave 65535 70000)
+  pub cell : addAnswer five (gave 1 4294967295) 0 1 1 ≡ refused (refusal 12) (gave 1 4294967295)
+  pub amount : addAnswer five freshLedger 0 1 most ≡ refused (refusal 12) freshLedger
   pub last : addAnswer five (gave 65534 4294967294) 0 1 1 ≡ accepted (gave 65535 4294967295)
 
 pub bad-transfers : BadTransfers
@@ -132,9 +132,9 @@ bad-transfers = record {
 -- ---- rows that clash
 
 pub record Clashes : Type 0 where
-  pub same-count : joinAnswer (gave 1 10) (gave 1 11) ≡ refused Refusal.Clash (gave 1 10)
-  pub later-smaller : joinAnswer (gave 1 10) (gave 2 9) ≡ refused Refusal.Clash (gave 1 10)
-  pub earlier-larger : joinAnswer (gave 2 9) (gave 1 10) ≡ refused Refusal.Clash (gave 2 9)
+  pub same-count : joinAnswer (gave 1 10) (gave 1 11) ≡ refused (refusal 6) (gave 1 10)
+  pub later-smaller : joinAnswer (gave 1 10) (gave 2 9) ≡ refused (refusal 6) (gave 1 10)
+  pub earlier-larger : joinAnswer (gave 2 9) (gave 1 10) ≡ refused (refusal 6) (gave 2 9)
   pub later : joinAnswer (gave 1 10) (gave 2 11) ≡ accepted (gave 2 11)
   pub earlier : joinAnswer (gave 2 11) (gave 1 10) ≡ accepted (gave 2 11)
 
@@ -155,12 +155,12 @@ generous = record { counts = replicate 16 0; cells = replicate 16 4294967295 ++ 
 pub record Contents : Type 0 where
   pub full-weight : weightAnswer five full 0 ≡ Signed.Value (pos 1000)
   pub negative-weight : weightAnswer five generous 0 ≡ Signed.Value (negsuc 64424508424)
-  pub full-bounds : checkAnswer five full ≡ Verdict.Refused Refusal.OddField
-  pub light : checkAnswer five (gave 1 375) ≡ Verdict.Refused Refusal.Light
+  pub full-bounds : checkAnswer five full ≡ Verdict.Refused (refusal 4)
+  pub light : checkAnswer five (gave 1 375) ≡ Verdict.Refused (refusal 5)
   pub not-light : checkAnswer five (gave 1 374) ≡ Verdict.Accepted
   pub floor-alone : floorAnswer five full ≡ Verdict.Accepted
-  pub count-alone : checkAnswer five (gave 2 1) ≡ Verdict.Refused Refusal.OddField
-  pub cell-alone : checkAnswer five (gave 0 1) ≡ Verdict.Refused Refusal.OddField
+  pub count-alone : checkAnswer five (gave 2 1) ≡ Verdict.Refused (refusal 4)
+  pub cell-alone : checkAnswer five (gave 0 1) ≡ Verdict.Refused (refusal 4)
 
 pub contents : Contents
 unfolding weightAnswer checkAnswer floorAnswer bounded aboveFloor mayHold totalFits serverOf validOf weightOf weight difference aboveOf above totalOf startOf all sum givenOf receivedOf

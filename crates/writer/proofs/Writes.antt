@@ -7,21 +7,21 @@ use borrow.Author.Tests.{eq-eqb, ne-eqb, le-leb, lt-leb}
 use lib.ListN.{length, take, drop, length-drop, drop-of-length-le}
 use lib.Seq.{take-all}
 use Rattle.config.specs.declared.cluster.Config.{Config}
-use Rattle.config.specs.declared.answer.Refusal.{Refusal}
 use Rattle.config.specs.declared.answer.Number.{Number}
 use Rattle.message.specs.declared.header.Header.{Header}
 use Rattle.message.specs.Headers.{encode}
-use Rattle.message.specs.Answers.{check, refusalOf, fits, writes, writeAnswer, over, writeBuffer}
+use Rattle.config.specs.Refusals.{refusal}
+use Rattle.message.specs.Answers.{check, fits, writes, writeAnswer, over, writeBuffer}
 use Rattle.writer.proofs.Overs.{lent, back}
 
 module _ (c : Config) (h : Header) (v out : List ℕ) (at : ℕ) where
   pub write-refused : (k : ℕ) → check c (encode c h v) ≡ k → (k ≡ 0 → ⊥)
-      → (Number.Refused (refusalOf k) ≡ writeAnswer c h v (length out) at) × (out ≡ writeBuffer c h v out at)
+      → (Number.Refused (refusal k) ≡ writeAnswer c h v (length out) at) × (out ≡ writeBuffer c h v out at)
   unfolding writeAnswer writeBuffer writes
   write-refused k e ne = let no-write = ne-eqb k 0 ne in (rw (e, no-write), rw (e, no-write))
 
   pub write-narrow : check c (encode c h v) ≡ 0 → length out < at + length (encode c h v)
-      → (Number.Refused Refusal.Narrow ≡ writeAnswer c h v (length out) at) × (out ≡ writeBuffer c h v out at)
+      → (Number.Refused (refusal 13) ≡ writeAnswer c h v (length out) at) × (out ≡ writeBuffer c h v out at)
   unfolding writeAnswer writeBuffer writes fits
   write-narrow e long =
       let taken = eq-eqb (check c (encode c h v)) 0 e in

@@ -7,7 +7,6 @@ use config::Config;
 use config::Number;
 use config::Refusal;
 use message::Header;
-use message::refusal;
 ghost use mathlib.Core.Path.{_≡_};
 ghost use lib.ListN.{length};
 ghost use Rattle.message.specs.Answers.{writeAnswer, writeBuffer};
@@ -19,7 +18,7 @@ pub fn write(config: Config, header: Header, value: &[u8], out: &mut [u8], at: u
 {
     let found = fault(config, header, value.len());
     if found != 0 {
-        return Number::Refused(refusal(found));
+        return Number::Refused(Refusal::of(found));
     }
     let ledger = header.ledger;
     let counts = ledger.counts;

@@ -5,7 +5,7 @@ use borrow.Author.Needs.{needs}
 use borrow.Author.Tests.{eq-eqb, ne-eqb, not-true, not-false}
 use Rattle.config.specs.Cluster.{validOf}
 use Rattle.config.specs.declared.answer.Verdict.{Verdict}
-use Rattle.message.specs.Answers.{check, checkAnswer, verdictOf, refusalOf}
+use Rattle.message.specs.Answers.{check, checkAnswer, verdictOf}
 use Rattle.reader.proofs.Answered.{check-invalid, check-found}
 use Rattle.reader.proofs.read.check.Statement.{statement}
 use Rattle.reader.proofs.read.check.Tie as tie
@@ -14,7 +14,7 @@ valid-requires : tie.Need-valid-requires
 valid-requires c κs = search needs
 
 returns : tie.Need-returns
-unfolding checkAnswer verdictOf refusalOf
+unfolding checkAnswer verdictOf
 returns c =
     let a = c .before .before .before .args in
     let out : validOf (a .config) ≡ false = sym (c .before .valid .ensures) ∙ not-true _ (c .if1 .taken) in
@@ -30,14 +30,14 @@ fault-requires c κs = valid c
 number : (c : tie.After-fault) → check (c .before .before .before .before .args .config) (c .before .before .before .before .args .msg .now) ≡ c .fault .result
 number c = check-found _ _ _ (valid (c .before)) (c .fault .ensures)
 
-refusal-requires : tie.Need-refusal-requires
-refusal-requires c κs = search needs
+of-requires : tie.Need-of-requires
+of-requires c κs = search needs
 
 returns-2 : tie.Need-returns-2
 unfolding checkAnswer verdictOf
 returns-2 c =
     let fault : c .before .before .fault .result ≡ 0 → ⊥ = c .before .if2 .taken in
-    simp (number (c .before .before), ne-eqb _ _ fault) (ap Verdict.Refused (c .refusal .ensures))
+    simp (number (c .before .before), ne-eqb _ _ fault) (ap Verdict.Refused (c .of .ensures))
 
 returns-3 : tie.Need-returns-3
 unfolding checkAnswer verdictOf
@@ -45,4 +45,4 @@ returns-3 c = simp (number (c .before), eq-eqb _ _ (c .if2 .left))
 
 pub check-spec : {M : Type 1} → statement M
 check-spec =
-    tie.close (tie.spec valid-requires returns fault-requires refusal-requires returns-2 returns-3)
+    tie.close (tie.spec valid-requires returns fault-requires of-requires returns-2 returns-3)

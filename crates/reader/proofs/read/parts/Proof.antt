@@ -5,7 +5,7 @@ use mathlib.Core.Bool.{true, false}
 use borrow.Author.Needs.{needs}
 use borrow.Author.Tests.{not-true, not-false}
 use Rattle.config.specs.Cluster.{validOf}
-use Rattle.message.specs.Answers.{check, refusalOf}
+use Rattle.message.specs.Answers.{check}
 use Rattle.reader.proofs.Answered.{check-invalid, check-found, parts-refused}
 use Rattle.reader.proofs.read.parts.Statement.{statement}
 use Rattle.reader.proofs.read.parts.Tie as tie
@@ -17,7 +17,6 @@ blank-requires : tie.Need-blank-requires
 blank-requires c κs = search needs
 
 returns : tie.Need-returns
-unfolding refusalOf
 returns c =
     let a = c .before .before .before .before .args in
     let out : validOf (a .config) ≡ false = sym (c .before .before .valid .ensures) ∙ not-true _ (c .before .if1 .taken) in
@@ -33,14 +32,14 @@ fault-requires c κs = valid c
 number : (c : tie.After-fault) → check (c .before .before .before .before .args .config) (c .before .before .before .before .args .msg .now) ≡ c .fault .result
 number c = check-found _ _ _ (valid (c .before)) (c .fault .ensures)
 
-refusal-requires : tie.Need-refusal-requires
-refusal-requires c κs = search needs
+of-requires : tie.Need-of-requires
+of-requires c κs = search needs
 
 blank-requires-2 : tie.Need-blank-requires-2
 blank-requires-2 c κs = search needs
 
 returns-2 : tie.Need-returns-2
-returns-2 c = rw (c .blank2 .ensures, c .before .refusal .ensures) (parts-refused _ _ _ (number (c .before .before .before)) (c .before .before .if2 .taken))
+returns-2 c = rw (c .blank2 .ensures, c .before .of .ensures) (parts-refused _ _ _ (number (c .before .before .before)) (c .before .before .if2 .taken))
 
 parts-in-requires : tie.Need-parts-in-requires
 parts-in-requires c κs = (valid (c .before .before), sym (c .before .fault .ensures) ∙ c .if2 .left)
@@ -56,7 +55,7 @@ parts-spec =
     blank-requires
     returns
     fault-requires
-    refusal-requires
+    of-requires
     blank-requires-2
     returns-2
     parts-in-requires

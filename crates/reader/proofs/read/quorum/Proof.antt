@@ -9,7 +9,7 @@ use lib.Dec.{eqb}
 use Rattle.quorums.specs.Accounts.{quorum}
 use Rattle.config.specs.Cluster.{validOf, decide}
 use Rattle.config.specs.declared.cluster.Config.{Config}
-use Rattle.config.specs.declared.answer.Refusal.{Refusal}
+use Rattle.config.specs.Refusals.{refusal}
 use Rattle.config.specs.declared.answer.Decision.{Decision}
 use Rattle.config.proofs.Clusters.{valid-bounds}
 use Rattle.ledger.specs.declared.ledger.Ledger.{Ledger}
@@ -17,7 +17,7 @@ use Rattle.ledger.specs.Maps.{named, mapOf}
 use Rattle.ledger.specs.Weights.{quorumOf, quorumAnswer}
 use Rattle.ledger.proofs.Maps.{shifted-zero}
 use Rattle.message.specs.Scans.{scanOf}
-use Rattle.message.specs.Answers.{check, refusalOf}
+use Rattle.message.specs.Answers.{check}
 use Rattle.reader.specs.Sums.{accountsIn}
 use Rattle.reader.specs.Weighings.{quorumIn}
 use Rattle.reader.proofs.Weights.{sums-quorum}
@@ -31,7 +31,7 @@ unfolding mapOf
 map-is c m v = simp v (sym (shifted-zero m (c .n)))
 
 -- what is answered for a map with a bit from n on, and for one without
-refused : (c : Config) (l : Ledger) (m : ℕ) → mapOf c m ≡ false → Decision.Refused Refusal.BadHouse ≡ quorumAnswer c l m
+refused : (c : Config) (l : Ledger) (m : ℕ) → mapOf c m ≡ false → Decision.Refused (refusal 1) ≡ quorumAnswer c l m
 unfolding quorumAnswer
 refused c l m e = simp e
 
@@ -43,7 +43,6 @@ valid-requires : tie.Need-valid-requires
 valid-requires c κs = search needs
 
 returns : tie.Need-returns
-unfolding refusalOf
 returns c =
     let a = c .before .before .before .args in
     let out : validOf (a .config) ≡ false = sym (c .before .valid .ensures) ∙ not-true _ (c .if1 .taken) in
@@ -65,13 +64,13 @@ scan-requires c κs = (valid (c .before .before), refl, refl)
 number : (c : tie.After-scan) → check (c .before .before .before .before .before .before .args .config) (c .before .before .before .before .before .before .args .msg .now) ≡ c .scan .result
 number c = check-found _ _ _ (valid (c .before .before .before)) (c .scan .ensures .0)
 
-refusal-requires : tie.Need-refusal-requires
-refusal-requires c κs = search needs
+of-requires : tie.Need-of-requires
+of-requires c κs = search needs
 
 returns-2 : tie.Need-returns-2
 returns-2 c =
     let scanned = c .before .before .before .before in
-    ap Decision.Refused (c .refusal .ensures) ∙ quorum-refused _ _ _ _ (number scanned) (c .before .if2 .taken)
+    ap Decision.Refused (c .of .ensures) ∙ quorum-refused _ _ _ _ (number scanned) (c .before .if2 .taken)
 
 cast-n : tie.Need-cast-n
 cast-n c = omega (arith, valid-bounds _ (valid (c .before .before .before .before .before .before .before)) .most)
@@ -124,7 +123,7 @@ quorum-spec =
     slice-aggregate-scan
     slice-aggregate-scan-2
     scan-requires
-    refusal-requires
+    of-requires
     returns-2
     cast-n
     cast-if3

@@ -8,13 +8,13 @@ use borrow.Author.Tests.{not-true, not-false}
 use Rattle.quorums.specs.Accounts.{weight}
 use Rattle.config.specs.Cluster.{validOf, serverOf}
 use Rattle.config.specs.declared.cluster.Config.{Config}
-use Rattle.config.specs.declared.answer.Refusal.{Refusal}
+use Rattle.config.specs.Refusals.{refusal}
 use Rattle.config.specs.declared.answer.Signed.{Signed}
 use Rattle.ledger.specs.declared.ledger.Ledger.{Ledger}
 use Rattle.ledger.specs.Weights.{weightOf, weightAnswer}
 use Rattle.ledger.proofs.Answers.{read-back}
 use Rattle.message.specs.Scans.{scanOf}
-use Rattle.message.specs.Answers.{check, refusalOf}
+use Rattle.message.specs.Answers.{check}
 use Rattle.reader.specs.Sums.{accountsIn}
 use Rattle.reader.proofs.Weights.{sums-weight}
 use Rattle.reader.proofs.Answered.{check-invalid, check-found, received-small, given-small, weight-refused, weight-accepted}
@@ -22,7 +22,7 @@ use Rattle.reader.proofs.read.weight.Statement.{statement}
 use Rattle.reader.proofs.read.weight.Tie as tie
 
 -- what is answered for a server that there isn't, and for one that there is
-refused : (c : Config) (l : Ledger) (i : ℕ) → serverOf c i ≡ false → Signed.Refused Refusal.BadHouse ≡ weightAnswer c l i
+refused : (c : Config) (l : Ledger) (i : ℕ) → serverOf c i ≡ false → Signed.Refused (refusal 1) ≡ weightAnswer c l i
 unfolding weightAnswer
 refused c l i e = simp e
 
@@ -34,7 +34,6 @@ valid-requires : tie.Need-valid-requires
 valid-requires c κs = search needs
 
 returns : tie.Need-returns
-unfolding refusalOf
 returns c =
     let a = c .before .before .before .args in
     let out : validOf (a .config) ≡ false = sym (c .before .valid .ensures) ∙ not-true _ (c .if1 .taken) in
@@ -56,13 +55,13 @@ scan-requires c κs = (valid (c .before .before), refl, refl)
 number : (c : tie.After-scan) → check (c .before .before .before .before .before .before .args .config) (c .before .before .before .before .before .before .args .msg .now) ≡ c .scan .result
 number c = check-found _ _ _ (valid (c .before .before .before)) (c .scan .ensures .0)
 
-refusal-requires : tie.Need-refusal-requires
-refusal-requires c κs = search needs
+of-requires : tie.Need-of-requires
+of-requires c κs = search needs
 
 returns-2 : tie.Need-returns-2
 returns-2 c =
     let scanned = c .before .before .before .before in
-    ap Signed.Refused (c .refusal .ensures) ∙ weight-refused _ _ _ _ (number scanned) (c .before .if2 .taken)
+    ap Signed.Refused (c .of .ensures) ∙ weight-refused _ _ _ _ (number scanned) (c .before .if2 .taken)
 
 has-requires : tie.Need-has-requires
 has-requires c κs = search needs
@@ -104,7 +103,7 @@ weight-spec =
     slice-aggregate-scan
     slice-aggregate-scan-2
     scan-requires
-    refusal-requires
+    of-requires
     returns-2
     has-requires
     returns-3

@@ -86,13 +86,13 @@ size-is c =
 fault-requires : tie.Need-fault-requires
 fault-requires c κs = search needs
 
-refusal-requires : tie.Need-refusal-requires
-refusal-requires c κs = search needs
+of-requires : tie.Need-of-requires
+of-requires c κs = search needs
 
 returns : tie.Need-returns
 returns c =
     let r = write-refused _ _ _ _ _ _ (found (c .before .before)) (c .before .if1 .taken) in
-    (ap Number.Refused (c .refusal .ensures) ∙ r .0, r .1)
+    (ap Number.Refused (c .of .ensures) ∙ r .0, r .1)
 
 slice-aggregate-mark-rows : tie.Need-slice-aggregate-mark-rows
 slice-aggregate-mark-rows c = search needs
@@ -169,7 +169,7 @@ write-spec =
     tie.close
     (tie.spec
     fault-requires
-    refusal-requires
+    of-requires
     returns
     slice-aggregate-mark-rows
     slice-aggregate-mark-rows-2

@@ -1,7 +1,7 @@
 -- `open` meets its contract: a fresh record, or a blank one beside the refusal.
 use mathlib.Core.Path.{_≡_, sym, ap, _∙_}
 use borrow.Author.Tests.{not-true, not-false}
-use Rattle.config.specs.declared.answer.Refusal.{Refusal}
+use Rattle.config.specs.Refusals.{refusal}
 use Rattle.config.specs.Cluster.{configOf}
 use Rattle.desk.specs.Desks.{opens, openOf, accepted, refused, freshDesk, blankDesk}
 use borrow.Author.Needs.{needs}
@@ -32,7 +32,7 @@ unfolding openOf
 returns c =
     let blank : c .before .fresh .result ≡ blankDesk = c .before .fresh .ensures ∙ ap (λ g. freshDesk g 0) (c .before .before .of2 .ensures) in
     simp (asked (c .before .before .before .before) ∙ not-true _ (c .before .before .before .if1 .taken))
-    (c .refused .ensures ∙ ap (refused Refusal.BadHouse) blank)
+    (c .refused .ensures ∙ ap (refused (refusal 1)) blank)
 
 fresh-requires-2 : tie.Need-fresh-requires-2
 fresh-requires-2 c κs = search needs

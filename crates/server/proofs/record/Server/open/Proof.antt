@@ -3,7 +3,7 @@ use mathlib.Core.Path.{_≡_, sym, ap, ap₂, _∙_}
 use borrow.Author.Needs.{needs}
 use borrow.Author.Tests.{not-true, not-false}
 use Rattle.config.specs.Cluster.{configOf, serverOf}
-use Rattle.config.specs.declared.answer.Refusal.{Refusal}
+use Rattle.config.specs.Refusals.{refusal}
 use Rattle.server.specs.Servers.{openOf, accepted, refused}
 use Rattle.server.proofs.record.Server.open.Statement.{statement}
 use Rattle.server.proofs.record.Server.open.Tie as tie
@@ -28,7 +28,7 @@ returns : tie.Need-returns
 unfolding openOf
 returns c =
     simp (sym (asked (c .before .before .before)) ∙ not-true _ (c .before .before .if1 .taken))
-    (c .refused .ensures ∙ ap (refused Refusal.BadHouse) (c .before .blank .ensures))
+    (c .refused .ensures ∙ ap (refused (refusal 1)) (c .before .blank .ensures))
 
 fresh-requires : tie.Need-fresh-requires
 fresh-requires c κs = search needs
