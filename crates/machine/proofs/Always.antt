@@ -6,13 +6,12 @@ use mathlib.Core.List.{List, [], _++_}
 use mathlib.Core.Option.{Option, none, some}
 use Rattle.config.specs.Cluster.{validOf}
 use Rattle.config.specs.declared.cluster.Config.{Config}
-use Rattle.machine.specs.Calls.{wrote}
-use Rattle.machine.specs.Runs.{machine, Step, opened, State, nth, when, nothing, take, at}
+use Rattle.machine.specs.Runs.{wrote, opened, nth, when, nothing, at}
+use Rattle.machine.specs.Steps.{machine, Step, runOf, PlainState}
 use Rattle.machine.proofs.Lists.{nth-in}
 use Rattle.machine.proofs.Histories.{History}
 use Rattle.machine.proofs.Replicas.{good-fresh}
-use Rattle.machine.proofs.Moves.{giftOf, moved}
-use Rattle.machine.proofs.Desks.{runOf}
+use Rattle.machine.proofs.Moves.{stepped, giftOf, moved}
 use Rattle.machine.proofs.Invariant.{Invariant}
 use Rattle.machine.proofs.DesksKept.{begins-kept, drops-kept, asks-kept, restarts-kept, chooses-kept, ends-kept, marks-kept}
 use Rattle.machine.proofs.ServersKept.{crashes-kept, shares-kept, takes-kept, replies-kept}
@@ -21,10 +20,10 @@ use Rattle.machine.proofs.GiftsKept.{gives-kept}
 -- the transfers made by the first k steps, latest first
 unfoldable pub historyAt : Config → List Step → ℕ → History
 historyAt c steps zero = []
-historyAt c steps (suc k) = when (nth steps k) [] (giftOf c (at (runOf c steps) k)) ++ historyAt c steps k
+historyAt c steps (suc k) = when (nth steps k) [] (giftOf c (at (runOf machine c steps) k)) ++ historyAt c steps k
 
-pub fresh-invariant : (c : Config) → Invariant c [] opened
-fresh-invariant c =
+pub fresh-invariant : (c : Config) (steps : List Step) → Invariant c [] (opened (runOf machine c steps))
+fresh-invariant c steps =
     record {
       lawful = record { each = λ g m. absurd m; ordered = tt };
       own = λ g m. absurd m;
@@ -36,8 +35,8 @@ fresh-invariant c =
       spreading = λ d. tt;
     }
 
-pub step-keeps : (c : Config) → validOf c ≡ true → (h : History) (s : State) → Invariant c h s → (st : Step)
-    → Invariant c (giftOf c s st ++ h) (take machine c s st .state)
+pub step-keeps : (c : Config) → validOf c ≡ true → (h : History) (s : PlainState) → Invariant c h s → (st : Step)
+    → Invariant c (giftOf c s st ++ h) (stepped c s st .state)
 step-keeps c valid h s inv st =
     moved c s (λ g z. Invariant c (g ++ h) (z .state)) st
     (record {
@@ -57,13 +56,13 @@ step-keeps c valid h s inv st =
       ends = λ d k m o g x i q f. ends-kept inv d o m (nth-in (s .sent) k m (x .sent)) (x .hearing) g;
     })
 
-place-keeps : (c : Config) → validOf c ≡ true → (h : History) (s : State) → Invariant c h s → (o : Option Step)
-    → Invariant c (when o [] (giftOf c s) ++ h) (when o (nothing s) (take machine c s) .state)
+place-keeps : (c : Config) → validOf c ≡ true → (h : History) (s : PlainState) → Invariant c h s → (o : Option Step)
+    → Invariant c (when o [] (giftOf c s) ++ h) (when o (nothing s) (stepped c s) .state)
 place-keeps c valid h s inv none = inv
 place-keeps c valid h s inv (some st) = step-keeps c valid h s inv st
 
-pub invariant : (c : Config) → validOf c ≡ true → (steps : List Step) (k : ℕ) → Invariant c (historyAt c steps k) (at (runOf c steps) k)
+pub invariant : (c : Config) → validOf c ≡ true → (steps : List Step) (k : ℕ) → Invariant c (historyAt c steps k) (at (runOf machine c steps) k)
 unfolding historyAt at
-invariant c valid steps zero = fresh-invariant c
+invariant c valid steps zero = fresh-invariant c steps
 invariant c valid steps (suc k) =
-    place-keeps c valid (historyAt c steps k) (at (runOf c steps) k) (invariant c valid steps k) (nth steps k)
+    place-keeps c valid (historyAt c steps k) (at (runOf machine c steps) k) (invariant c valid steps k) (nth steps k)

@@ -12,14 +12,13 @@ use Rattle.config.specs.Cluster.{validOf, startOf}
 use Rattle.config.specs.declared.cluster.Config.{Config}
 use Rattle.machine.specs.Sets.{Transfers, includes, union, count}
 use Rattle.machine.specs.Parties.{Replica, reply, Message}
-use Rattle.machine.specs.Runs.{Step, nth, Run, at}
+use Rattle.machine.specs.Runs.{nth, at, deskAt}
+use Rattle.machine.specs.Steps.{Step, runOf, PlainRun, machine}
 use Rattle.machine.specs.Views.{SameTag}
-use Rattle.machine.specs.Seen.{deskAt}
 use Rattle.machine.specs.Clauses.{Found, by-server, by-desk, by-message, Sound}
 use Rattle.machine.proofs.Lists.{In, nth-in}
 use Rattle.machine.proofs.Histories.{Lawfully, Closed, _⊇_}
 use Rattle.machine.proofs.Closed.{AllOf, part-count}
-use Rattle.machine.proofs.Desks.{runOf}
 use Rattle.machine.proofs.DesksKept.{kinds-apart}
 use Rattle.machine.proofs.Invariant.{own-whole}
 use Rattle.machine.proofs.Always.{historyAt, invariant}
@@ -38,8 +37,8 @@ pub record Joins (c : Config) (x y : Replica) : Type 0 where
   pub sound : Sound c (union (x .set) (y .set))
 
 module _ (c : Config) (valid : validOf c ≡ true) (steps : List Step) where
-  abbrev r : Run
-  r = runOf c steps
+  abbrev r : PlainRun
+  r = runOf machine c steps
 
   -- ---- sets held or sent at whatever places k and l of the run
 
@@ -68,7 +67,7 @@ module _ (c : Config) (valid : validOf c ≡ true) (steps : List Step) where
   -- ---- a party's replica and a message sent
 
   module _ (k p : ℕ) (m : Message) (sent : nth (at r k .sent) p ≡ some m) where
-    pub server-joins : (i : ℕ) → Joins c (at r k .servers i .replica) (m .replica)
+    pub server-joins : (i : ℕ) → Joins c (at r k .servers i) (m .replica)
     server-joins i =
         record {
           rows = found-agree k k _ _ (by-server i refl) (by-message p m sent refl);
@@ -89,12 +88,12 @@ module _ (c : Config) (valid : validOf c ≡ true) (steps : List Step) where
   -- ---- a server's own row
 
   -- every transfer of server i, wherever it is held or was sent, is in i's own set, then and later
-  pub own-row : (k l : ℕ) (a : Transfers) → k ≤ l → Found r k a → (i : ℕ) → AllOf i a (at r l .servers i .replica .set)
+  pub own-row : (k l : ℕ) (a : Transfers) → k ≤ l → Found r k a → (i : ℕ) → AllOf i a (at r l .servers i .set)
   own-row k l a e f i = own-whole (invariant c valid steps l) (found-later c valid steps k l a e f) i
 
   -- so no row of the server's own is above its own count
-  pub own-count : (k l : ℕ) (a : Transfers) → k ≤ l → Found r k a → (i : ℕ) → count a i ≤ count (at r l .servers i .replica .set) i
-  own-count k l a e f i = part-count a (at r l .servers i .replica .set) (found-closed c valid steps k a f .once) i (own-row k l a e f i)
+  pub own-count : (k l : ℕ) (a : Transfers) → k ≤ l → Found r k a → (i : ℕ) → count a i ≤ count (at r l .servers i .set) i
+  own-count k l a e f i = part-count a (at r l .servers i .set) (found-closed c valid steps k a f .once) i (own-row k l a e f i)
 
   -- ---- a reply of the current round
 

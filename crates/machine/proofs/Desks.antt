@@ -10,24 +10,21 @@ use lib.ListN.{length}
 use Rattle.config.specs.declared.cluster.Config.{Config}
 use Rattle.machine.specs.Sets.{Transfers, quorumOf}
 use Rattle.machine.specs.Parties.{Register, join, Message, Task, valueOf, first, second, Operation, running, Desk, answered}
-use Rattle.machine.specs.Calls.{mostRound, mostValue, Answer, done, wrote, told, begun, restarted, no-stamp, moved-on, finished, marked, dropped, knows}
-use Rattle.machine.specs.Runs.{machine, Step, begin, hear, put, nth, when, Made, nothing, take, Run, State, at, answerAt}
+use Rattle.machine.specs.Runs.{Answer, done, wrote, told, put, nth, when, nothing, at, answerAt, deskAt}
+use Rattle.machine.specs.Calls.{mostRound, mostValue, begun, restarted, no-stamp, moved-on, finished, marked, dropped, knows}
+use Rattle.machine.specs.Steps.{machine, Step, begin, hear, PlainState, PlainRun, runOf}
+use Rattle.machine.specs.Seen.{accepted, heardBy, brings, viewOf}
 use Rattle.machine.specs.Views.{Begins}
-use Rattle.machine.specs.Seen.{deskAt, accepted, heardBy, brings, viewOf}
 use Rattle.machine.proofs.Branches.{branch, Resting}
 use Rattle.machine.proofs.Histories.{History}
-use Rattle.machine.proofs.Moves.{Heard, moved}
-
--- the run of the plain machine on a list of steps
-abbrev pub runOf : Config → List Step → Run
-runOf c steps = record { store = machine; config = c; steps = steps }
+use Rattle.machine.proofs.Moves.{stepped, PlainMade, Heard, moved}
 
 -- a change at i is none elsewhere
 pub put-cases : {A : Type 0} (P : A → Type 0) (f : ℕ → A) (i : ℕ) (a : A) (x : ℕ) → (x ≡ i → P a) → ((x ≡ i → ⊥) → P (f x)) → P (put f i a x)
 put-cases P f i a x p q = branch P (eqb x i) a (f x) (λ e. p (eqb-true x i e)) (λ e. q (eqb-false x i e))
 
 -- what can become of the desk x, which has the number d, at place k of the run r; P takes what the step brings and the desk after it
-pub record DeskMoves (r : Run) (d k : ℕ) (x : Desk) (P : Transfers → Desk → Type 0) : Type 0 where
+pub record DeskMoves (r : PlainRun) (d k : ℕ) (x : Desk) (P : Transfers → Desk → Type 0) : Type 0 where
   pub still : P [] x
   pub begins : (t : Task) (note : ℕ) → Begins (viewOf r) d k t → length (valueOf t) ≤ mostValue → Resting (x .activity) → x .round < mostRound
       → P [] (begun x t note)
@@ -54,10 +51,10 @@ abbrev bringing : ℕ → List Message → Step → Answer → Transfers
 bringing d l st a = cond (accepted a) (when (heardBy d l st) [] (λ m. m .replica .set)) []
 
 module _ (c : Config) (steps : List Step) (d k : ℕ) (P : Transfers → Desk → Type 0) where
-  abbrev r : Run
-  r = runOf c steps
+  abbrev r : PlainRun
+  r = runOf machine c steps
 
-  abbrev s : State
+  abbrev s : PlainState
   s = at r k
 
   abbrev x : Desk
@@ -104,14 +101,14 @@ module _ (c : Config) (steps : List Step) (d k : ℕ) (P : Transfers → Desk �
         f)
         (other e p (h .step))
 
-    answer-is : answerAt r k ≡ take machine c s st .answer
+    answer-is : answerAt r k ≡ stepped c s st .answer
     unfolding answerAt
-    answer-is = ap (λ o. when o (nothing s) (take machine c s) .answer) is
+    answer-is = ap (λ o. when o (nothing s) (stepped c s) .answer) is
 
-    abbrev Goal : History → Made → Type 0
-    Goal h z = z ≡ take machine c s st → P (bringing d (s .sent) st (z .answer)) (z .state .desks d)
+    abbrev Goal : History → PlainMade → Type 0
+    Goal h z = z ≡ stepped c s st → P (bringing d (s .sent) st (z .answer)) (z .state .desks d)
 
-    by-step : P (bringing d (s .sent) st (take machine c s st .answer)) (take machine c s st .state .desks d)
+    by-step : P (bringing d (s .sent) st (stepped c s st .answer)) (stepped c s st .state .desks d)
     by-step =
         moved c s Goal st
         (record {
@@ -191,6 +188,6 @@ module _ (c : Config) (steps : List Step) (d k : ℕ) (P : Transfers → Desk �
   desk-moved m = by-place (nth steps k) refl
     where
       by-place : (o : Option Step) → nth steps k ≡ o
-          → P (when o [] (λ st. bringing d (s .sent) st (when o (nothing s) (take machine c s) .answer))) (when o (nothing s) (take machine c s) .state .desks d)
+          → P (when o [] (λ st. bringing d (s .sent) st (when o (nothing s) (stepped c s) .answer))) (when o (nothing s) (stepped c s) .state .desks d)
       by-place none e = m .still
       by-place (some st) e = by-step m st e

@@ -6,9 +6,10 @@ use mathlib.Core.Logic.{⊎-elim}
 use mathlib.Core.List.{List, [], _∷_, _++_}
 use Rattle.config.specs.declared.cluster.Config.{Config}
 use Rattle.machine.specs.Sets.{Transfers, has}
-use Rattle.machine.specs.Parties.{Register, Replica, join, Kind, request, Message, kindNumber, Server, Task, Operation, Desk}
-use Rattle.machine.specs.Calls.{Answer, done, accept, begun, requestOf, restarted, moved-on, chosen, finished, marked, dropped}
-use Rattle.machine.specs.Runs.{State, afterDesk}
+use Rattle.machine.specs.Parties.{Register, Replica, join, Kind, request, Message, kindNumber, Task, Operation, Desk}
+use Rattle.machine.specs.Runs.{Answer, done, afterDesk}
+use Rattle.machine.specs.Calls.{accept, begun, requestOf, restarted, moved-on, chosen, finished, marked, dropped}
+use Rattle.machine.specs.Steps.{PlainState}
 use Rattle.machine.specs.Views.{_≼_}
 use Rattle.machine.proofs.Lists.{In, in-either, in-one, each-append}
 use Rattle.machine.proofs.Outcomes.{Hearing}
@@ -27,7 +28,7 @@ kinds-apart e f = f (ap kindNumber e)
 
 -- ---- Since, of more transfers and of a lower tag
 
-pub since-more : (h : History) (servers : ℕ → Server) (i : ℕ) (a b : Transfers) (g : Register) → _⊇_ b a → Since h servers i a g → Since h servers i b g
+pub since-more : (h : History) (servers : ℕ → Replica) (i : ℕ) (a b : Transfers) (g : Register) → _⊇_ b a → Since h servers i a g → Since h servers i b g
 since-more h servers i a b g p q =
     record {
       now = q .now;
@@ -35,7 +36,7 @@ since-more h servers i a b g p q =
           q .later e m s (test-false (has a (e .transfer)) (λ t. let u = p (e .transfer) t in let z : _≡_ {A = ℕ} 0 1 = cc in omega arith));
     }
 
-pub since-lower : (h : History) (servers : ℕ → Server) (i : ℕ) (a : Transfers) (g b : Register) → b ≼ g → Since h servers i a g → Since h servers i a b
+pub since-lower : (h : History) (servers : ℕ → Replica) (i : ℕ) (a : Transfers) (g b : Register) → b ≼ g → Since h servers i a g → Since h servers i a b
 since-lower h servers i a g b p q =
     record { now = tag-trans b g _ p (q .now); later = λ e m s f. tag-trans b g (e .tag) p (q .later e m s f) }
 
@@ -47,7 +48,7 @@ pub record Requested (h : History) (d : ℕ) (x : Desk) (m : Message) : Type 0 w
   pub desk : m .desk ≡ d
   pub round : m .round ≡ x .round
 
-module _ {c : Config} {h : History} {s : State} (inv : Invariant c h s) (d : ℕ) where
+module _ {c : Config} {h : History} {s : PlainState} (inv : Invariant c h s) (d : ℕ) where
   desk-kept : (a : Answer) (y : Desk) (l : List Message) → Good h (y .replica) → s .desks d .round ≤ y .round
       → ((m : Message) → In m l → Requested h d y m)
       → WhileSecond (Spreading h (s .servers) (s .sent ++ l) d y) (y .activity)

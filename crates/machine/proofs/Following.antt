@@ -5,13 +5,14 @@ use Prim.Native.Nat.{ℕ, _<_}
 use native.Mathlib.Omega.{arith}
 use mathlib.Core.Path.{_≡_, refl, sym, ap, _∙_, subst}
 use mathlib.Core.Logic.{_⊎_, inl, inr, ⊎-elim}
-use mathlib.Core.Bool.{Bool, true, false}
-use mathlib.Core.List.{List, [], _∷_, _++_, append-nil}
+use mathlib.Core.Bool.{Bool, true}
+use mathlib.Core.List.{List, [], _∷_, _++_}
 use Rattle.config.specs.declared.cluster.Config.{Config}
 use Rattle.machine.specs.Sets.{Transfers}
 use Rattle.machine.specs.Parties.{Register, Replica, join, request, reply, Message, Operation, Activity, idle, running, ended, Desk}
-use Rattle.machine.specs.Calls.{Answer, done, wrote, accept, begun, requestOf, restarted, moved-on, finished, marked, dropped, replyTo, given-away, served}
-use Rattle.machine.specs.Runs.{machine, Step, State, afterDesk, afterServer, afterCrash, put, take}
+use Rattle.machine.specs.Runs.{Answer, done, wrote, afterDesk, afterServer, afterCrash}
+use Rattle.machine.specs.Calls.{accept, begun, requestOf, restarted, moved-on, finished, marked, dropped, replyTo, given-away, served}
+use Rattle.machine.specs.Steps.{Step, PlainState}
 use Rattle.machine.specs.Views.{_≼_}
 use Rattle.machine.proofs.Lists.{In, in-either, in-one, nth-in}
 use Rattle.machine.proofs.Outcomes.{Hearing, shareOf}
@@ -20,7 +21,7 @@ use Rattle.machine.proofs.Histories.{Gift, History, Closed, Good, _⊇_
 use Rattle.machine.proofs.Closed.{AllOf, closed-more}
 use Rattle.machine.proofs.Joins.{join-left, join-right, join-has-left, join-has-right}
 use Rattle.machine.proofs.Replicas.{good-more}
-use Rattle.machine.proofs.Moves.{giftBy, giftOf, moved}
+use Rattle.machine.proofs.Moves.{stepped, giftBy, giftOf, moved}
 use Rattle.machine.proofs.Desks.{put-cases}
 use Rattle.machine.proofs.Invariant.{Since, Invariant, own-whole}
 use Rattle.machine.proofs.DesksKept.{kinds-apart}
@@ -41,7 +42,7 @@ module _ (a : Register) (S : Transfers) (q : ℕ → Bool) (rounds : ℕ → ℕ
   seen-more : (i : ℕ) (r y : Replica) → _⊇_ (y .set) (r .set) → r .register ≼ y .register → Seen i r → Seen i y
   seen-more i r y p l s = record { transfers = λ t e f. p t (s .transfers t e f); tag = λ e. tag-trans a (r .register) (y .register) (s .tag e) l }
 
-  pub record Following (h : History) (s : State) : Type 0 where
+  pub record Following (h : History) (s : PlainState) : Type 0 where
     pub closed : Closed h S
     pub evidence : (i : ℕ) → q i ≡ true → Since h (s .servers) i S a
     pub replies : (m : Message) → In m (s .sent) → m .kind ≡ reply → rounds (m .desk) < m .round → Seen (m .server) (m .replica)
@@ -49,12 +50,12 @@ module _ (a : Register) (S : Transfers) (q : ℕ → Bool) (rounds : ℕ → ℕ
         → WhileRunning (λ l. (m : Message) → In m l → Seen (m .server) (s .desks d .replica)) (s .desks d .activity)
 
   -- what a server holds is seen
-  seen-now : {c : Config} {h : History} {s : State} → Invariant c h s → Following h s → (i : ℕ) → Seen i (s .servers i .replica)
+  seen-now : {c : Config} {h : History} {s : PlainState} → Invariant c h s → Following h s → (i : ℕ) → Seen i (s .servers i)
   seen-now inv f i = record { transfers = own-whole inv (f .closed) i; tag = λ e. f .evidence i e .now }
 
   -- ---- one desk changes, and requests are sent at most
 
-  module _ {h : History} {s : State} (f : Following h s) (d : ℕ) where
+  module _ {h : History} {s : PlainState} (f : Following h s) (d : ℕ) where
     desk-follows : (n : Answer) (y : Desk) (l : List Message) → ((m : Message) → In m l → m .kind ≡ request)
         → (rounds d < y .round → WhileRunning (λ k. (m : Message) → In m k → Seen (m .server) (y .replica)) (y .activity))
         → Following h (afterDesk s d (record { answer = n; party = y; sent = l }))
@@ -102,40 +103,37 @@ module _ (a : Register) (S : Transfers) (q : ℕ → Bool) (rounds : ℕ → ℕ
 
   -- ---- one server changes
 
-  module _ {c : Config} {h : History} {s : State} (inv : Invariant c h s) (f : Following h s) (i : ℕ) where
+  module _ {c : Config} {h : History} {s : PlainState} (inv : Invariant c h s) (f : Following h s) (i : ℕ) where
     server-follows : (k : History) → (good : (r : Replica) → Good h r → Good k r)
-        → (gifts : (e : Gift) → In e k → In e h ⊎ (e .tag ≡ s .servers (e .transfer .giver) .replica .register))
+        → (gifts : (e : Gift) → In e k → In e h ⊎ (e .tag ≡ s .servers (e .transfer .giver) .register))
         → Closed k S
-        → (y : Replica) (b : Bool) (l : List Message)
-        → s .servers i .replica .register ≼ y .register
+        → (y : Replica) (l : List Message)
+        → s .servers i .register ≼ y .register
         → ((m : Message) → In m l → m .kind ≡ reply → Seen (m .server) (m .replica))
-        → Following k (withServer s i y b l)
-    server-follows k good gifts closed y b l up told =
+        → Following k (withServer s i y l)
+    server-follows k good gifts closed y l up told =
         record {
           closed = closed;
-          evidence = λ j e. since-kept inv i k good gifts y b up j S a (f .evidence j e);
+          evidence = λ j e. since-kept inv i k good gifts y up j S a (f .evidence j e);
           replies = λ m n e g.
               ⊎-elim (λ (p : In m (s .sent)). f .replies m p e g) (λ (p : In m l). told m p e) (in-either m (s .sent) l n);
           desks = f .desks;
         }
 
-    same-history : (y : Replica) (b : Bool) (l : List Message) → s .servers i .replica .register ≼ y .register
+    same-history : (y : Replica) (l : List Message) → s .servers i .register ≼ y .register
         → ((m : Message) → In m l → m .kind ≡ reply → Seen (m .server) (m .replica))
-        → Following h (withServer s i y b l)
-    same-history y b l up told = server-follows h (λ r g. g) (λ e m. inl m) (f .closed) y b l up told
+        → Following h (withServer s i y l)
+    same-history y l up told = server-follows h (λ r g. g) (λ e m. inl m) (f .closed) y l up told
 
     abbrev r : Replica
-    r = s .servers i .replica
+    r = s .servers i
 
     crashes-follows : Following h (afterCrash s i)
-    crashes-follows =
-        subst (λ z. Following h (record { servers = put (s .servers) i (record { replica = r; crashed = true }); desks = s .desks; sent = z }))
-        (append-nil (s .sent))
-        (same-history r true [] (tag-refl (r .register)) (λ m n. absurd n))
+    crashes-follows = record { closed = f .closed; evidence = f .evidence; replies = f .replies; desks = f .desks }
 
     shares-follows : (n : Answer) → Following h (afterServer s i (record { answer = n; party = r; sent = shareOf i r ∷ [] }))
     shares-follows n =
-        same-history r false (shareOf i r ∷ []) (tag-refl (r .register))
+        same-history r (shareOf i r ∷ []) (tag-refl (r .register))
         (λ m p e. absurd (kinds-apart (sym (ap (λ z. z .kind) (in-one m (shareOf i r) p)) ∙ e) (λ g. omega arith)))
 
     gives-follows : (j e : ℕ) → Following (giftBy r i j e ∷ h) (afterServer s i (accept done (given-away r i j e)))
@@ -144,27 +142,26 @@ module _ (a : Register) (S : Transfers) (q : ℕ → Bool) (rounds : ℕ → ℕ
         (λ x m. ⊎-elim (λ (p : x ≡ giftBy r i j e). inr (rw p refl)) (λ (p : In x h). inl p) m)
         (closed-more (giftBy r i j e) h S (f .closed))
         (given-away r i j e)
-        false
         []
         (tag-refl (r .register))
         (λ m n. absurd n)
 
     module _ (m : Message) where
       takes-follows : (n : Answer) → Following h (afterServer s i (accept n (served r m)))
-      takes-follows n = same-history (served r m) false [] (join-left r (m .replica)) (λ m n. absurd n)
+      takes-follows n = same-history (served r m) [] (join-left r (m .replica)) (λ m n. absurd n)
 
       replies-follows : (n : Answer)
           → Following h (afterServer s i (record { answer = n; party = served r m; sent = replyTo m i (served r m) ∷ [] }))
       replies-follows n =
-          same-history (served r m) false (replyTo m i (served r m) ∷ []) (join-left r (m .replica))
+          same-history (served r m) (replyTo m i (served r m) ∷ []) (join-left r (m .replica))
           (λ t p e.
           subst (λ z. Seen (z .server) (z .replica)) (sym (in-one t (replyTo m i (served r m)) p))
           (seen-more i r _ (join-has-left r (m .replica)) (join-left r (m .replica)) (seen-now inv f i)))
 
   -- ---- every step
 
-  pub step-follows : (c : Config) (h : History) (s : State) → Invariant c h s → Following h s → (st : Step)
-      → Following (giftOf c s st ++ h) (take machine c s st .state)
+  pub step-follows : (c : Config) (h : History) (s : PlainState) → Invariant c h s → Following h s → (st : Step)
+      → Following (giftOf c s st ++ h) (stepped c s st .state)
   step-follows c h s inv f st =
       moved c s (λ g z. Following (g ++ h) (z .state)) st
       (record {

@@ -21,8 +21,9 @@ use Rattle.config.specs.declared.cluster.Config.{Config}
 use Rattle.config.proofs.Clusters.{valid-bounds, total-is}
 use Rattle.machine.specs.Sets.{Transfer, Transfers, has, tally, count, given, received, weightOf, accountsFrom}
 use Rattle.machine.specs.Parties.{Replica}
-use Rattle.machine.specs.Calls.{done, accept, given-away}
-use Rattle.machine.specs.Runs.{State, afterServer, put}
+use Rattle.machine.specs.Runs.{done, afterServer, put}
+use Rattle.machine.specs.Calls.{accept, given-away}
+use Rattle.machine.specs.Steps.{PlainState}
 use Rattle.machine.proofs.Lists.{In}
 use Rattle.machine.proofs.Outcomes.{Giving}
 use Rattle.machine.proofs.Tags.{tag-refl}
@@ -65,10 +66,10 @@ module _ (a : Transfers) (i j e : ℕ) (other : j ≡ i → ⊥) (k : ℕ) where
   unfolding weight
   weight-next w = rw (difference-less) (ap₂ difference (ap (λ x. w i + x) received-next) given-next)
 
-module _ (c : Config) (valid : validOf c ≡ true) {h : History} {s : State} (inv : Invariant c h s) (i j e : ℕ) (below : i < c .n)
-    (giving : Giving c i (s .servers i .replica) j e) where
+module _ (c : Config) (valid : validOf c ≡ true) {h : History} {s : PlainState} (inv : Invariant c h s) (i j e : ℕ) (below : i < c .n)
+    (giving : Giving c i (s .servers i) j e) where
   abbrev r : Replica
-  r = s .servers i .replica
+  r = s .servers i
 
   abbrev gift : Gift
   gift = giftBy r i j e
@@ -76,7 +77,7 @@ module _ (c : Config) (valid : validOf c ≡ true) {h : History} {s : State} (in
   -- every transfer that i made before is numbered lower
   lower : (x : Gift) → In x h → x .transfer .giver ≡ i → x .transfer .number < suc (count (r .set) i)
   lower x m f =
-      let held : has (r .set) (x .transfer) ≡ true = subst (λ z. has (s .servers z .replica .set) (x .transfer) ≡ true) f (inv .own x m) in
+      let held : has (r .set) (x .transfer) ≡ true = subst (λ z. has (s .servers z .set) (x .transfer) ≡ true) f (inv .own x m) in
       let bound : x .transfer .number ≤ count (r .set) (x .transfer .giver) = has-numbered (inv .lawful) (inv .servers i .closed) x m held in
       let there : x .transfer .number ≤ count (r .set) i = subst (λ z. x .transfer .number ≤ count (r .set) z) f bound in
       omega arith
@@ -140,7 +141,6 @@ module _ (c : Config) (valid : validOf c ≡ true) {h : History} {s : State} (in
       server-kept inv i (gift ∷ h) (good-more gift h)
       (λ x m. ⊎-elim (λ (q : x ≡ gift). inr (rw q refl)) (λ (q : In x h). inl q) m)
       (given-away r i j e)
-      false
       (tag-refl (r .register))
       []
       (record {
@@ -151,14 +151,14 @@ module _ (c : Config) (valid : validOf c ≡ true) {h : History} {s : State} (in
       (λ x m.
       ⊎-elim
       (λ (q : x ≡ gift).
-      subst (λ z. has (put (s .servers) i (record { replica = given-away r i j e; crashed = false }) (z .transfer .giver) .replica .set) (z .transfer) ≡ true) (sym q)
-      (put-cases (λ z. has (z .replica .set) (gift .transfer) ≡ true) (s .servers) i _ i (λ f. has-first (gift .transfer) (r .set)) (λ f. absurd (f refl))))
+      subst (λ z. has (put (s .servers) i (given-away r i j e) (z .transfer .giver) .set) (z .transfer) ≡ true) (sym q)
+      (put-cases (λ z. has (z .set) (gift .transfer) ≡ true) (s .servers) i _ i (λ f. has-first (gift .transfer) (r .set)) (λ f. absurd (f refl))))
       (λ (q : In x h).
-      put-cases (λ z. has (z .replica .set) (x .transfer) ≡ true) (s .servers) i _ (x .transfer .giver)
+      put-cases (λ z. has (z .set) (x .transfer) ≡ true) (s .servers) i _ (x .transfer .giver)
       (λ f. has-rest (gift .transfer) (x .transfer) (r .set) (held x q f))
       (λ f. inv .own x q))
       m)
       (λ m n. absurd n)
     where
       held : (x : Gift) → In x h → x .transfer .giver ≡ i → has (r .set) (x .transfer) ≡ true
-      held x m f = subst (λ z. has (s .servers z .replica .set) (x .transfer) ≡ true) f (inv .own x m)
+      held x m f = subst (λ z. has (s .servers z .set) (x .transfer) ≡ true) f (inv .own x m)

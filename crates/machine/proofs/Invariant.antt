@@ -7,19 +7,19 @@ use mathlib.Core.List.{List}
 use Rattle.config.specs.Cluster.{startOf}
 use Rattle.config.specs.declared.cluster.Config.{Config}
 use Rattle.machine.specs.Sets.{Transfers, has}
-use Rattle.machine.specs.Parties.{Register, reply, share, Message, Server, Phase, first, second, Operation, Activity, idle, running, ended, Desk}
-use Rattle.machine.specs.Runs.{State}
+use Rattle.machine.specs.Parties.{Register, Replica, reply, share, Message, Phase, first, second, Operation, Activity, idle, running, ended, Desk}
+use Rattle.machine.specs.Steps.{PlainState}
 use Rattle.machine.specs.Views.{_≼_}
 use Rattle.machine.proofs.Lists.{In}
 use Rattle.machine.proofs.Histories.{Gift, History, Lawfully, Good, Closed}
 use Rattle.machine.proofs.Closed.{AllOf, closed-each}
 
-pub record Since (h : History) (servers : ℕ → Server) (i : ℕ) (a : Transfers) (g : Register) : Type 0 where
-  pub now : g ≼ servers i .replica .register
+pub record Since (h : History) (servers : ℕ → Replica) (i : ℕ) (a : Transfers) (g : Register) : Type 0 where
+  pub now : g ≼ servers i .register
   pub later : (e : Gift) → In e h → e .transfer .giver ≡ i → has a (e .transfer) ≡ false → g ≼ e .tag
 
 -- what is known of the operation of desk d in phase 2, in which g was chosen and the replies l heard
-pub record Spreading (h : History) (servers : ℕ → Server) (sent : List Message) (d : ℕ) (x : Desk) (g : Register) (l : List Message) : Type 0 where
+pub record Spreading (h : History) (servers : ℕ → Replica) (sent : List Message) (d : ℕ) (x : Desk) (g : Register) (l : List Message) : Type 0 where
   pub held : g ≼ x .replica .register
   pub answered : (m : Message) → In m l → Since h servers (m .server) (x .replica .set) g
   pub current : (m : Message) → In m sent → (m .kind ≡ share → ⊥) → m .desk ≡ d → m .round ≡ x .round → g ≼ m .replica .register
@@ -34,12 +34,12 @@ WhileSecond Q idle = Unit
 WhileSecond Q (running o) = InSecond Q (o .phase) (o .heard)
 WhileSecond Q (ended y) = Unit
 
-pub record Invariant (c : Config) (h : History) (s : State) : Type 0 where
+pub record Invariant (c : Config) (h : History) (s : PlainState) : Type 0 where
   pub lawful : Lawfully (c .n) (c .f) (startOf c) h
   -- a server's set has all of its own transfers
-  pub own : (g : Gift) → In g h → has (s .servers (g .transfer .giver) .replica .set) (g .transfer) ≡ true
+  pub own : (g : Gift) → In g h → has (s .servers (g .transfer .giver) .set) (g .transfer) ≡ true
   -- every replica held or sent is good
-  pub servers : (i : ℕ) → Good h (s .servers i .replica)
+  pub servers : (i : ℕ) → Good h (s .servers i)
   pub desks : (d : ℕ) → Good h (s .desks d .replica)
   pub messages : (m : Message) → In m (s .sent) → Good h (m .replica)
   -- a reply tells what its server held
@@ -49,11 +49,11 @@ pub record Invariant (c : Config) (h : History) (s : State) : Type 0 where
   pub spreading : (d : ℕ) → WhileSecond (Spreading h (s .servers) (s .sent) d (s .desks d)) (s .desks d .activity)
 
 -- every transfer of server i in a closed set is in i's own
-pub own-whole : {c : Config} {h : History} {s : State} {a : Transfers} → Invariant c h s → Closed h a → (i : ℕ)
-    → AllOf i a (s .servers i .replica .set)
+pub own-whole : {c : Config} {h : History} {s : PlainState} {a : Transfers} → Invariant c h s → Closed h a → (i : ℕ)
+    → AllOf i a (s .servers i .set)
 own-whole {s = s} inv k i =
-    closed-each k (λ t. t .giver ≡ i → has (s .servers i .replica .set) t ≡ true)
-    (λ g m e f. subst (λ j. has (s .servers j .replica .set) (g .transfer) ≡ true) f (inv .own g m))
+    closed-each k (λ t. t .giver ≡ i → has (s .servers i .set) t ≡ true)
+    (λ g m e f. subst (λ j. has (s .servers j .set) (g .transfer) ≡ true) f (inv .own g m))
 
 -- ---- phases
 

@@ -13,7 +13,7 @@ use Rattle.config.specs.Cluster.{validOf}
 use Rattle.config.specs.declared.cluster.Config.{Config}
 use Rattle.machine.specs.Sets.{Transfer, Transfers, has, quorumOf}
 use Rattle.machine.specs.Parties.{Register, Replica, join, Message, Operation, answered}
-use Rattle.machine.specs.Runs.{State}
+use Rattle.machine.specs.Steps.{PlainState}
 use Rattle.machine.specs.Views.{_≼_}
 use Rattle.machine.proofs.Lists.{In}
 use Rattle.machine.proofs.Outcomes.{Hearing}
@@ -41,7 +41,7 @@ answered-replied (m ∷ l) i e = by-test (eqb (m .server) i) refl e (answered-re
     by-test true f g rest = record { message = m; heard = inl refl; server = eqb-true (m .server) i f }
     by-test false f g rest = let y = rest g in record { message = y .message; heard = inr (y .heard); server = y .server }
 
-module _ (c : Config) (valid : validOf c ≡ true) {h : History} {s : State} (inv : Invariant c h s) (a : Register) (S : Transfers) (q : ℕ → Bool)
+module _ (c : Config) (valid : validOf c ≡ true) {h : History} {s : PlainState} (inv : Invariant c h s) (a : Register) (S : Transfers) (q : ℕ → Bool)
     (rounds : ℕ → ℕ) (f : Following a S q rounds h s) (quorum : quorumOf c S q ≡ true) where
   -- a transfer of p's set that a server of q made after A, or none
   module _ (p : Replica) (good : Good h p) (l : List Message) (seen : (m : Message) → In m l → Seen a S q rounds (m .server) p)

@@ -1,5 +1,8 @@
 -- Laws, in reading order.
 
+-- Runs by computation.
+pub mod Computing
+pub mod Pins
 -- Lists, places of a run, and what comes out of a choice.
 pub mod Lists
 pub mod Places

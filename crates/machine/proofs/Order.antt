@@ -11,16 +11,17 @@ use Rattle.config.specs.Cluster.{validOf}
 use Rattle.config.specs.declared.cluster.Config.{Config}
 use Rattle.machine.specs.Sets.{Transfers}
 use Rattle.machine.specs.Parties.{Register, below, Replica, join, Task, read, write, writes, Phase, first, second, Operation, Result, Activity, idle, running, ended, answered}
+use Rattle.machine.specs.Runs.{nth, when, nothing, at, deskAt}
 use Rattle.machine.specs.Calls.{chosen}
-use Rattle.machine.specs.Runs.{machine, Step, State, Run, nth, when, nothing, take, at}
+use Rattle.machine.specs.Steps.{machine, Step, runOf, PlainState, PlainRun}
+use Rattle.machine.specs.Seen.{viewOf}
 use Rattle.machine.specs.Views.{Begins, Chose, _≼_, Order}
-use Rattle.machine.specs.Seen.{deskAt, viewOf}
 use Rattle.machine.proofs.Lists.{nth-in}
 use Rattle.machine.proofs.Tags.{tag-trans, tag-below, write-above, chosen-above}
 use Rattle.machine.proofs.Histories.{History}
 use Rattle.machine.proofs.Replicas.{good-join}
-use Rattle.machine.proofs.Moves.{giftOf}
-use Rattle.machine.proofs.Desks.{runOf, desk-moved}
+use Rattle.machine.proofs.Moves.{stepped, giftOf}
+use Rattle.machine.proofs.Desks.{desk-moved}
 use Rattle.machine.proofs.Phases.{Finish, ends-finish}
 use Rattle.machine.proofs.Places.{from-on}
 use Rattle.machine.proofs.Performed.{NoBegin, during, begins-is, chosen-runs}
@@ -37,8 +38,8 @@ writes-above d read r e = absurd (false≢true e)
 writes-above d (write v) r e = write-above d v r
 
 module _ (c : Config) (valid : validOf c ≡ true) (steps : List Step) where
-  abbrev r : Run
-  r = runOf c steps
+  abbrev r : PlainRun
+  r = runOf machine c steps
 
   -- ---- rounds rise
 
@@ -64,8 +65,8 @@ module _ (c : Config) (valid : validOf c ≡ true) (steps : List Step) where
     abbrev FollowingAt : ℕ → Type 0
     FollowingAt p = Following a S q rounds (historyAt c steps p) (at r p)
 
-    place-follows : (h : History) (s : State) → Invariant c h s → Following a S q rounds h s → (o : Option Step)
-        → Following a S q rounds (when o [] (giftOf c s) ++ h) (when o (nothing s) (take machine c s) .state)
+    place-follows : (h : History) (s : PlainState) → Invariant c h s → Following a S q rounds h s → (o : Option Step)
+        → Following a S q rounds (when o [] (giftOf c s) ++ h) (when o (nothing s) (stepped c s) .state)
     place-follows h s inv f none = f
     place-follows h s inv f (some st) = step-follows a S q rounds c h s inv f st
 
@@ -183,7 +184,7 @@ module _ (c : Config) (valid : validOf c ≡ true) (steps : List Step) where
         subst (Chosen x u) (two .phase-two) (here .1)
 
 -- Theorem: the order of tags.
-pub order : (c : Config) → validOf c ≡ true → (steps : List Step) → Order (viewOf (runOf c steps))
+pub order : (c : Config) → validOf c ≡ true → (steps : List Step) → Order (viewOf (runOf machine c steps))
 order c valid steps d i k t x a ends chose e j u b l later =
     subst (λ g. (g ≼ b) × (writes u ≡ true → below g b ≡ true)) (sym (results c steps .tag d i k t x a ends chose))
     (later-chosen c valid steps d k t x (ends-finish c steps ends) e u j b l later)

@@ -12,14 +12,15 @@ use Rattle.quorums.proofs.Tests.{le-or-lt}
 use Rattle.config.specs.declared.cluster.Config.{Config}
 use Rattle.machine.specs.Sets.{count, quorumOf}
 use Rattle.machine.specs.Parties.{Register, Replica, join, request, reply, share, Message, bytesOf, Task, valueOf, first, second, Operation, Result, running, ended, Desk, answered}
-use Rattle.machine.specs.Calls.{mostCount, mostRound, mostValue, late, done, wrote, told, Outcome, accept, refuse, send, given-away, transferBy, shareBy, replyTo, answerRequest, serveBy, begun, beginBy, requestOf, askBy, restarted, restart, no-stamp, moved-on, choose, finished, marked, mark, hearBy, resultBy, dropped, dropBy, knows, served, spares}
+use Rattle.machine.specs.Runs.{late, done, wrote, told, Outcome}
+use Rattle.machine.specs.Calls.{mostCount, mostRound, mostValue, accept, refuse, send, given-away, transferBy, shareBy, replyTo, answerRequest, serveBy, begun, beginBy, requestOf, askBy, restarted, restart, no-stamp, moved-on, choose, finished, marked, mark, hearBy, resultBy, dropped, dropBy, knows, served, spares}
 use Rattle.machine.proofs.Branches.{branch, kind-cases, phase-cases, Resting, running-cases, ended-cases}
 
 -- the outcome of a message written from a place on, after which the party is x
-abbrev pub sends : {A : Type 0} → Config → A → Message → ℕ → Outcome A
+abbrev pub sends : {A : Type 0} → Config → A → Message → ℕ → Outcome Message A
 sends c x m place = record { answer = wrote (place + length (bytesOf c m)); party = x; sent = m ∷ [] }
 
-pub send-cases : {A : Type 0} (P : Outcome A → Type 0) (c : Config) (old new : A) (m : Message) (place size : ℕ) → P (refuse 13 old)
+pub send-cases : {A : Type 0} (P : Outcome Message A → Type 0) (c : Config) (old new : A) (m : Message) (place size : ℕ) → P (refuse 13 old)
     → P (sends c new m place)
     → P (send c old new m place size)
 unfolding send
@@ -35,7 +36,7 @@ pub record Giving (c : Config) (i : ℕ) (r : Replica) (j e : ℕ) : Type 0 wher
   pub room : count (r .set) i < mostCount
   pub floor : spares c r i e ≡ true
 
-pub transfer-cases : (P : Outcome Replica → Type 0) (c : Config) (i : ℕ) (r : Replica) (j e : ℕ) → ((k : ℕ) → P (refuse k r))
+pub transfer-cases : (P : Outcome Message Replica → Type 0) (c : Config) (i : ℕ) (r : Replica) (j e : ℕ) → ((k : ℕ) → P (refuse k r))
     → (Giving c i r j e → P (accept done (given-away r i j e)))
     → P (transferBy c i r j e)
 unfolding transferBy
@@ -66,13 +67,13 @@ transfer-cases P c i r j e no-way gives =
 abbrev pub shareOf : ℕ → Replica → Message
 shareOf i r = record { kind = share; server = i; desk = 0; round = 0; note = 0; replica = r }
 
-pub share-cases : (P : Outcome Replica → Type 0) (c : Config) (i : ℕ) (r : Replica) (place size : ℕ) → ((k : ℕ) → P (refuse k r))
+pub share-cases : (P : Outcome Message Replica → Type 0) (c : Config) (i : ℕ) (r : Replica) (place size : ℕ) → ((k : ℕ) → P (refuse k r))
     → P (sends c r (shareOf i r) place)
     → P (shareBy c i r place size)
 unfolding shareBy
 share-cases P c i r place size no-way shares = send-cases P c r r (shareOf i r) place size (no-way 13) shares
 
-pub serve-cases : (P : Outcome Replica → Type 0) (c : Config) (i : ℕ) (r : Replica) (m : Message) (place size : ℕ) → ((k : ℕ) → P (refuse k r))
+pub serve-cases : (P : Outcome Message Replica → Type 0) (c : Config) (i : ℕ) (r : Replica) (m : Message) (place size : ℕ) → ((k : ℕ) → P (refuse k r))
     → (m .kind ≡ share → P (accept (wrote place) (served r m)))
     → (m .kind ≡ request → m .server ≡ i → P (sends c (served r m) (replyTo m i (served r m)) place))
     → P (serveBy c i r m place size)
@@ -89,7 +90,7 @@ serve-cases P c i r m place size no-way takes replies =
 
 -- ---- desks
 
-pub begin-cases : (P : Outcome Desk → Type 0) (c : Config) (x : Desk) (t : Task) (note : ℕ) → ((k : ℕ) → P (refuse k x))
+pub begin-cases : (P : Outcome Message Desk → Type 0) (c : Config) (x : Desk) (t : Task) (note : ℕ) → ((k : ℕ) → P (refuse k x))
     → (length (valueOf t) ≤ mostValue → Resting (x .activity) → x .round < mostRound → P (accept done (begun x t note)))
     → P (beginBy c x t note)
 unfolding beginBy
@@ -101,7 +102,7 @@ begin-cases P c x t note no-way begins =
     branch P (leb mostRound (x .round)) _ _ (λ m. no-way 12)
     (λ m. begins (ltb-false mostValue (length (valueOf t)) l) rests (leb-false mostRound (x .round) m))))
 
-pub ask-cases : (P : Outcome Desk → Type 0) (c : Config) (d : ℕ) (x : Desk) (i place size : ℕ) → ((k : ℕ) → P (refuse k x))
+pub ask-cases : (P : Outcome Message Desk → Type 0) (c : Config) (d : ℕ) (x : Desk) (i place size : ℕ) → ((k : ℕ) → P (refuse k x))
     → ((o : Operation) → x .activity ≡ running o → i < c .n → P (sends c x (requestOf d x o i) place))
     → P (askBy c d x i place size)
 unfolding askBy
@@ -121,7 +122,7 @@ pub record Hearing (d : ℕ) (x : Desk) (m : Message) (o : Operation) : Type 0 w
   pub runs : x .activity ≡ running o
 
 -- the ways in which a hear can go: nothing changes, or the operation restarts, is marked, goes on to phase 2, or ends
-pub record HearCases (c : Config) (d : ℕ) (x : Desk) (m : Message) (P : Outcome Desk → Type 0) : Type 0 where
+pub record HearCases (c : Config) (d : ℕ) (x : Desk) (m : Message) (P : Outcome Message Desk → Type 0) : Type 0 where
   pub refuses : (k : ℕ) → P (refuse k x)
   pub lags : P (accept late x)
   pub restarts : (o : Operation) → Hearing d x m o → knows x m ≡ false → x .round < mostRound
@@ -139,7 +140,7 @@ pub record HearCases (c : Config) (d : ℕ) (x : Desk) (m : Message) (P : Outcom
       → o .phase ≡ second g
       → P (accept done (finished x o (join (x .replica) (m .replica)) g))
 
-module _ {c : Config} {d : ℕ} {x : Desk} {m : Message} (P : Outcome Desk → Type 0) (h : HearCases c d x m P) where
+module _ {c : Config} {d : ℕ} {x : Desk} {m : Message} (P : Outcome Message Desk → Type 0) (h : HearCases c d x m P) where
   restart-outcome : (o : Operation) → Hearing d x m o → knows x m ≡ false → P (restart x o m)
   unfolding restart
   restart-outcome o e i =
@@ -181,13 +182,13 @@ module _ {c : Config} {d : ℕ} {x : Desk} {m : Message} (P : Outcome Desk → T
       (λ e. h .refuses 7))
       (λ k. h .refuses 7)
 
-pub result-cases : (P : Outcome Desk → Type 0) (x : Desk) → ((k : ℕ) → P (refuse k x))
+pub result-cases : (P : Outcome Message Desk → Type 0) (x : Desk) → ((k : ℕ) → P (refuse k x))
     → ((y : Result) → x .activity ≡ ended y → P (accept (told y) x))
     → P (resultBy x)
 unfolding resultBy
 result-cases P x no-way tells = ended-cases P (x .activity) _ _ tells (no-way 9)
 
-pub drop-cases : (P : Outcome Desk → Type 0) (x : Desk) → ((k : ℕ) → P (refuse k x))
+pub drop-cases : (P : Outcome Message Desk → Type 0) (x : Desk) → ((k : ℕ) → P (refuse k x))
     → ((o : Operation) → x .activity ≡ running o → P (accept done (dropped x)))
     → P (dropBy x)
 unfolding dropBy

@@ -6,21 +6,23 @@ use mathlib.Core.Path.{_≡_, refl, sym, ap, _∙_, subst}
 use mathlib.Core.Logic.{_⊎_, inl, inr, ⊎-elim}
 use mathlib.Core.Bool.{false, false≢true}
 use mathlib.Core.List.{List}
-use mathlib.Core.Option.{none, some, Option·none-ne-some, Option·some-injective}
+use mathlib.Core.Option.{Option, none, some, Option·none-ne-some, Option·some-injective}
+use borrow.Author.Tests.{le-leb}
 use lib.ListN.{length}
 use Rattle.quorums.proofs.Tests.{le-or-lt}
 use Rattle.quorums.proofs.Sums.{below-suc}
 use Rattle.config.specs.declared.cluster.Config.{Config}
-use Rattle.machine.specs.Parties.{Register, Task, valueOf, Phase, first, second, by-phase, Operation, Result, Activity, idle, running, ended, if-ended, Desk}
-use Rattle.machine.specs.Calls.{mostRound, mostValue, Answer, unmade, refused, done, told, accept, refuse, begun, beginBy, resultBy}
-use Rattle.machine.specs.Runs.{machine, Step, begin, hear, put, nth, when, nothing, take, Run, State, at, answerAt}
+use Rattle.machine.specs.Parties.{Register, Task, valueOf, Phase, first, second, by-phase, Operation, Result, Activity, idle, running, ended, Desk}
+use Rattle.machine.specs.Runs.{Answer, unmade, refused, done, put, nth, when, nothing, onDesk, take, at, answerAt, deskAt}
+use Rattle.machine.specs.Calls.{mostRound, mostValue, begun, beginBy, resultBy}
+use Rattle.machine.specs.Steps.{machine, Step, begin, hear, runOf, PlainState, PlainRun}
+use Rattle.machine.specs.Seen.{resultIn, chosenIn, accepted, viewOf}
 use Rattle.machine.specs.Views.{View, Begins, Current, Ends}
-use Rattle.machine.specs.Seen.{deskAt, resultIn, chosenIn, accepted, viewOf}
 use Rattle.machine.proofs.Places.{from-on}
 use Rattle.machine.proofs.Branches.{Resting}
-use Rattle.machine.proofs.Outcomes.{begin-cases}
-use Rattle.machine.proofs.Moves.{on-desk}
-use Rattle.machine.proofs.Desks.{runOf, put-cases, desk-moved}
+use Rattle.machine.proofs.Outcomes.{begin-cases, result-cases}
+use Rattle.machine.proofs.Moves.{stepped, Seated, on-desk}
+use Rattle.machine.proofs.Desks.{put-cases, desk-moved}
 
 -- ---- the last begin before a place, in any run
 
@@ -89,8 +91,8 @@ pub record Begun (x : Desk) (t : Task) (y : Desk) : Type 0 where
   pub room : x .round < mostRound
   pub after : y ≡ begun x t note
 
-begin-taken : (c : Config) (s : State) (d : ℕ) (t : Task) (note : ℕ) → take machine c s (begin d t note) .answer ≡ done
-    → Begun (s .desks d) t (take machine c s (begin d t note) .state .desks d)
+begin-taken : (c : Config) (s : PlainState) (d : ℕ) (t : Task) (note : ℕ) → stepped c s (begin d t note) .answer ≡ done
+    → Begun (s .desks d) t (stepped c s (begin d t note) .state .desks d)
 unfolding take
 begin-taken c s d t note =
     on-desk c s (λ z. z .answer ≡ done → Begun (s .desks d) t (z .state .desks d)) d (λ x. beginBy c x t note) (apart unmade refl)
@@ -112,12 +114,12 @@ begin-taken c s d t note =
 -- ---- where what a desk does comes from
 
 -- the begin of an operation with the task t that runs at place k
-pub record RunningFrom (r : Run) (d k : ℕ) (t : Task) : Type 0 where
+pub record RunningFrom (r : PlainRun) (d k : ℕ) (t : Task) : Type 0 where
   pub begun : ℕ
   pub current : Current (viewOf r) d begun t k
 
 -- the begin and the end of the operation whose result x is there at place k
-pub record EndedFrom (r : Run) (d k : ℕ) (x : Result) : Type 0 where
+pub record EndedFrom (r : PlainRun) (d k : ℕ) (x : Result) : Type 0 where
   pub begun : ℕ
   pub task : Task
   pub end : ℕ
@@ -147,20 +149,20 @@ chosen-runs (ended y) g e = absurd (Option·none-ne-some g e)
 pub runs-chosen : (a : Activity) (g : Register) → PhaseTwo a g → chosenIn a ≡ some g
 runs-chosen a g p = rw (p .runs, p .phase-two) refl
 
-abbrev Origin : Run → ℕ → ℕ → Activity → Type 0
+abbrev Origin : PlainRun → ℕ → ℕ → Activity → Type 0
 Origin r d k idle = Unit
 Origin r d k (running o) = RunningFrom r d k (o .task)
 Origin r d k (ended x) = EndedFrom r d k x
 
 module _ (c : Config) (steps : List Step) where
-  abbrev r : Run
-  r = runOf c steps
+  abbrev r : PlainRun
+  r = runOf machine c steps
 
   pub begins-is : (d k : ℕ) (t : Task) → Begins (viewOf r) d k t → Begun (deskAt r d k) t (deskAt r d (suc k))
   unfolding at answerAt
   begins-is d k t b =
       subst (λ z. z .answer ≡ done → Begun (deskAt r d k) t (z .state .desks d))
-      (ap (λ o. when o (nothing (at r k)) (take machine c (at r k))) (sym (b .step)))
+      (ap (λ o. when o (nothing (at r k)) (stepped c (at r k))) (sym (b .step)))
       (begin-taken c (at r k) d t (b .note))
       (b .taken)
 
@@ -171,25 +173,25 @@ module _ (c : Config) (steps : List Step) where
   pub unmoved : (d k : ℕ) → deskAt r d k ≡ deskAt r d (suc k) → NoBegin (viewOf r) d k
   unmoved d k e u b = let f = begins-is d k u b in subst Resting (ap (λ y. y .activity) (e ∙ f .after)) (f .rests)
 
-  -- what a result call gives is the result of an operation that has ended
-  pub gives-ended : (d k : ℕ) (x : Result) → viewOf r .gives d k ≡ some x → deskAt r d k .activity ≡ ended x
-  unfolding resultBy
-  gives-ended d k x = by-activity (deskAt r d k .activity)
-    where
-      by-activity : (a : Activity)
-          → resultIn (if-ended a (λ y. accept (told y) (deskAt r d k)) (refuse 9 (deskAt r d k)) .answer) ≡ some x
-          → a ≡ ended x
-      by-activity idle e = absurd (Option·none-ne-some x e)
-      by-activity (running o) e = absurd (Option·none-ne-some x e)
-      by-activity (ended y) e = ap ended (Option·some-injective y x e)
+  -- What a result call gives is the result of an operation that has ended, of a desk that there is.
+  gives-cases : (P : Option Result → Type 0) (d k : ℕ) → P none → ((y : Result) → Seated d → deskAt r d k .activity ≡ ended y → P (some y))
+      → P (viewOf r .gives d k)
+  unfolding take
+  gives-cases P d k no-result given =
+      on-desk c (at r k) (λ z. P (resultIn (z .answer))) d resultBy no-result
+      (λ seated. result-cases (λ o. P (resultIn (o .answer))) (deskAt r d k) (λ n. no-result) (λ y. given y seated))
 
-  pub ended-gives : (d k : ℕ) (x : Result) → deskAt r d k .activity ≡ ended x → viewOf r .gives d k ≡ some x
-  unfolding resultBy
-  ended-gives d k x e = rw e refl
+  pub gives-ended : (d k : ℕ) (x : Result) → viewOf r .gives d k ≡ some x → Seated d × (deskAt r d k .activity ≡ ended x)
+  gives-ended d k x =
+      gives-cases (λ z. z ≡ some x → Seated d × (deskAt r d k .activity ≡ ended x)) d k (λ e. absurd (Option·none-ne-some x e))
+      (λ y seated f e. (seated, f ∙ ap ended (Option·some-injective y x e)))
+
+  pub ended-gives : (d k : ℕ) (x : Result) → Seated d → deskAt r d k .activity ≡ ended x → viewOf r .gives d k ≡ some x
+  unfolding take onDesk resultBy
+  ended-gives d k x seated e = rw (le-leb 1 d (seated .some), le-leb d 65535 (seated .most), e) refl
 
   running-gives : (d k : ℕ) (o : Operation) → deskAt r d k .activity ≡ running o → viewOf r .gives d k ≡ none
-  unfolding resultBy
-  running-gives d k o e = rw e refl
+  running-gives d k o e = gives-cases (λ z. z ≡ none) d k refl (λ y seated f. absurd (running-ended e f))
 
   module _ (d k : ℕ) where
     origin-next : (a : Activity) → NoBegin (viewOf r) d k → Origin r d k a → Origin r d (suc k) a
@@ -210,11 +212,11 @@ module _ (c : Config) (steps : List Step) where
     goes-on o e h = origin-next (running o) (busy d k o e) (subst (Origin r d k) e h)
 
     -- what runs comes to its end
-    comes-to-end : (p : ℕ) (o : Operation) (x : Result) → nth steps k ≡ some (hear d p) → deskAt r d k .activity ≡ running o
+    comes-to-end : (p : ℕ) (o : Operation) (x : Result) → nth steps k ≡ some (hear d p) → Seated d → deskAt r d k .activity ≡ running o
         → deskAt r d (suc k) .activity ≡ ended x
         → Origin r d k (deskAt r d k .activity)
         → EndedFrom r d (suc k) x
-    comes-to-end p o x s e f h =
+    comes-to-end p o x s seated e f h =
         let from : RunningFrom r d k (o .task) = subst (Origin r d k) e h in
         record {
           begun = from .begun;
@@ -227,7 +229,7 @@ module _ (c : Config) (steps : List Step) where
                 message = p;
                 step = s;
                 before = running-gives d k o e;
-                after = ended-gives d (suc k) x f;
+                after = ended-gives d (suc k) x seated f;
               };
           earlier = omega arith;
         }
@@ -242,7 +244,7 @@ module _ (c : Config) (steps : List Step) where
           restarts = λ p m o f i room e. goes-on o (f .hearing .runs) h;
           marks = λ p m o f i e. goes-on o (f .hearing .runs) h;
           chooses = λ p m o f i q g room w e. goes-on o (f .hearing .runs) h;
-          ends = λ p m o g s f i q z e. comes-to-end p o _ s (f .hearing .runs) (ap (λ y. y .activity) (sym e)) h;
+          ends = λ p m o g s f i q z e. comes-to-end p o _ s (f .seated) (f .hearing .runs) (ap (λ y. y .activity) (sym e)) h;
         })
         refl
 

@@ -10,12 +10,14 @@ use Rattle.quorums.proofs.Tests.{le-or-lt}
 use Rattle.config.specs.declared.cluster.Config.{Config}
 use Rattle.machine.specs.Sets.{quorumOf}
 use Rattle.machine.specs.Parties.{Register, join, Message, Task, writes, first, second, Operation, Result, Activity, idle, running, ended, answered}
-use Rattle.machine.specs.Runs.{Step, Run, at}
+use Rattle.machine.specs.Runs.{at, deskAt}
+use Rattle.machine.specs.Steps.{Step, runOf, PlainRun, machine}
+use Rattle.machine.specs.Seen.{viewOf}
 use Rattle.machine.specs.Views.{Current, Ends, Chose}
-use Rattle.machine.specs.Seen.{deskAt, viewOf}
 use Rattle.machine.proofs.Lists.{In, nth-in}
 use Rattle.machine.proofs.Outcomes.{Hearing}
-use Rattle.machine.proofs.Desks.{runOf, desk-moved}
+use Rattle.machine.proofs.Moves.{Seated}
+use Rattle.machine.proofs.Desks.{desk-moved}
 use Rattle.machine.proofs.Performed.{NoBegin, during, running-ended, gives-ended, ended-gives, running-origin, current-unique, chosen-runs}
 
 -- phase 2 with the register g, or its end
@@ -30,7 +32,7 @@ one o e f = cc
 
 -- How an operation with the task t ends at place k with the result x: it is in phase 2 there, with the register of x, and the message that the desk
 -- hears makes the servers that answered a quorum.
-pub record Finish (r : Run) (d k : ℕ) (t : Task) (x : Result) : Type 0 where
+pub record Finish (r : PlainRun) (d k : ℕ) (t : Task) (x : Result) : Type 0 where
   pub operation : Operation
   pub message : Message
   pub sent : In message (at r k .sent)
@@ -41,8 +43,8 @@ pub record Finish (r : Run) (d k : ℕ) (t : Task) (x : Result) : Type 0 where
   pub kind : x .is-write ≡ writes t
 
 module _ (c : Config) (steps : List Step) where
-  abbrev r : Run
-  r = runOf c steps
+  abbrev r : PlainRun
+  r = runOf machine c steps
 
   -- phase 2 stays, with its register, until the operation ends or is dropped
   second-next : (d k : ℕ) (g : Register) → NoBegin (viewOf r) d k → Second g (deskAt r d k .activity) → Second g (deskAt r d (suc k) .activity)
@@ -89,7 +91,7 @@ module _ (c : Config) (steps : List Step) where
   ends-finish {d} {i} {k} {t} {x} h =
       desk-moved c steps d k (λ a y. y .activity ≡ ended x → Finish r d k t x)
       (record {
-        still = λ e. absurd (Option·none-ne-some x (sym (h .before) ∙ ended-gives c steps d k x e));
+        still = λ e. absurd (Option·none-ne-some x (sym (h .before) ∙ ended-gives c steps d k x (after .0) e));
         begins = λ u note b l rests room e. absurd (running-ended refl e);
         drops = λ o f e. absurd (idle-ended e);
         restarts = λ p m o f i room e. absurd (running-ended refl e);
@@ -97,8 +99,11 @@ module _ (c : Config) (steps : List Step) where
         chooses = λ p m o f i q g room w e. absurd (running-ended refl e);
         ends = λ p m o g s f i q z e. finish o g m (nth-in (at r k .sent) p m (f .sent)) (f .hearing) q z e;
       })
-      (gives-ended c steps d (suc k) x (h .after))
+      (after .1)
     where
+      after : Seated d × (deskAt r d (suc k) .activity ≡ ended x)
+      after = gives-ended c steps d (suc k) x (h .after)
+
       idle-ended : idle ≡ ended x → ⊥
       idle-ended e = let z : _≡_ {A = ℕ} 0 1 = cc in omega arith
 

@@ -11,13 +11,12 @@ use lib.ListN.{length}
 use Rattle.config.specs.Cluster.{validOf, stampBytes, mostStamp}
 use Rattle.config.specs.declared.cluster.Config.{Config}
 use Rattle.machine.specs.Parties.{Register, start, Replica, Message, write, valueOf, second, Operation, Result, running, ended, Desk}
+use Rattle.machine.specs.Runs.{at, deskAt}
 use Rattle.machine.specs.Calls.{mostValue}
-use Rattle.machine.specs.Runs.{Step, State, Run, at}
-use Rattle.machine.specs.Seen.{deskAt}
+use Rattle.machine.specs.Steps.{Step, runOf, PlainState, PlainRun, machine}
 use Rattle.machine.specs.Typed.{Bytes, Typed}
 use Rattle.machine.proofs.Lists.{In}
 use Rattle.machine.proofs.Moves.{Seated}
-use Rattle.machine.proofs.Desks.{runOf}
 use Rattle.machine.proofs.Performed.{running-origin, current-unique, chosen-runs}
 use Rattle.machine.proofs.Registers.{write-own}
 use Rattle.machine.proofs.Traces.{Written, Carries, by-server, by-desk, by-operation, by-result, by-message, traced}
@@ -52,8 +51,8 @@ pub record DeskRange (c : Config) (sent : List Message) (d : ℕ) (x : Desk) : T
   pub told : (y : Result) → x .activity ≡ ended y → RegisterRange c (y .register)
 
 -- servers, desks, and the messages sent
-pub record StateRange (c : Config) (s : State) : Type 0 where
-  pub servers : (i : ℕ) → ReplicaRange c (s .servers i .replica)
+pub record StateRange (c : Config) (s : PlainState) : Type 0 where
+  pub servers : (i : ℕ) → ReplicaRange c (s .servers i)
   pub desks : (d : ℕ) → DeskRange c (s .sent) d (s .desks d)
   pub messages : (m : Message) → In m (s .sent) → MessageRange c m
 
@@ -66,8 +65,8 @@ stamp-fits c g w =
     (w .tag)
 
 module _ (c : Config) (steps : List Step) (typed : Typed steps) where
-  abbrev r : Run
-  r = runOf c steps
+  abbrev r : PlainRun
+  r = runOf machine c steps
 
   -- ---- registers
 
@@ -97,11 +96,11 @@ module _ (c : Config) (steps : List Step) (typed : Typed steps) where
 
 -- ---- after every step of every run
 
-pub ranges : (c : Config) → validOf c ≡ true → (steps : List Step) → Typed steps → (k : ℕ) → StateRange c (at (runOf c steps) k)
+pub ranges : (c : Config) → validOf c ≡ true → (steps : List Step) → Typed steps → (k : ℕ) → StateRange c (at (runOf machine c steps) k)
 ranges c valid steps typed k =
     let inv = invariant c valid steps k in
     let now = kept c steps typed k in
-    let replica : (x : Replica) → Carries (runOf c steps) k (x .register) → Closed (historyAt c steps k) (x .set) → ReplicaRange c x =
+    let replica : (x : Replica) → Carries (runOf machine c steps) k (x .register) → Closed (historyAt c steps k) (x .set) → ReplicaRange c x =
     λ x g a. record { register = register-range c steps typed k (x .register) g; set = closed-range c valid (inv .lawful) a } in
     record {
       servers = λ i. replica _ (by-server i refl) (inv .servers i .closed);

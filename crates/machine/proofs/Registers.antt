@@ -9,14 +9,15 @@ use mathlib.Core.List.{List}
 use Rattle.quorums.proofs.Tests.{le-or-lt}
 use Rattle.config.specs.declared.cluster.Config.{Config}
 use Rattle.machine.specs.Parties.{Register, below, Replica, join, Task, write, Phase, first, second, Activity, idle, running, ended, Desk, Operation}
+use Rattle.machine.specs.Runs.{deskAt}
 use Rattle.machine.specs.Calls.{chosen}
-use Rattle.machine.specs.Runs.{Step, Run}
+use Rattle.machine.specs.Steps.{Step, runOf, PlainRun, machine}
+use Rattle.machine.specs.Seen.{viewOf}
 use Rattle.machine.specs.Views.{Current, Chose, _≼_, SameTag}
-use Rattle.machine.specs.Seen.{deskAt, viewOf}
 use Rattle.machine.proofs.Places.{from-on}
 use Rattle.machine.proofs.Tags.{tag-refl, tag-trans, tag-below, below-apart, write-above, chosen-above}
 use Rattle.machine.proofs.Joins.{join-left}
-use Rattle.machine.proofs.Desks.{runOf, desk-moved}
+use Rattle.machine.proofs.Desks.{desk-moved}
 use Rattle.machine.proofs.Performed.{NoBegin, during, begins-is, chosen-runs}
 
 -- ---- what an operation chooses
@@ -48,8 +49,8 @@ phase-rises d t b h j first e p = tt
 phase-rises d t b h j (second g) e p = (p .0, tag-trans g h j (p .1) e)
 
 module _ (c : Config) (steps : List Step) where
-  abbrev r : Run
-  r = runOf c steps
+  abbrev r : PlainRun
+  r = runOf machine c steps
 
   abbrev heldAt : ℕ → ℕ → Register
   heldAt d k = deskAt r d k .replica .register

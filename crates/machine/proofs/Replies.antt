@@ -10,16 +10,16 @@ use Rattle.config.specs.Cluster.{validOf}
 use Rattle.config.specs.declared.cluster.Config.{Config}
 use Rattle.machine.specs.Sets.{has, includes}
 use Rattle.machine.specs.Parties.{Replica, join, share, Message, Desk}
-use Rattle.machine.specs.Calls.{done, accept, replyTo, served, requestOf}
-use Rattle.machine.specs.Runs.{machine, Step, State, put, nth, nothing, take, afterDesk, Run, at}
-use Rattle.machine.specs.Seen.{deskAt}
+use Rattle.machine.specs.Runs.{done, put, nth, nothing, afterDesk, at, deskAt}
+use Rattle.machine.specs.Calls.{accept, replyTo, served, requestOf}
+use Rattle.machine.specs.Steps.{machine, Step, runOf, PlainState, PlainRun}
 use Rattle.machine.proofs.Lists.{In, each-append, each-one, nth-in}
 use Rattle.machine.proofs.Branches.{when-cases}
 use Rattle.machine.proofs.Sets.{union-included}
 use Rattle.machine.proofs.Joins.{join-has-right}
 use Rattle.machine.proofs.Histories.{History, _⊇_}
-use Rattle.machine.proofs.Moves.{moved}
-use Rattle.machine.proofs.Desks.{runOf, put-cases}
+use Rattle.machine.proofs.Moves.{stepped, moved}
+use Rattle.machine.proofs.Desks.{put-cases}
 use Rattle.machine.proofs.Invariant.{Invariant}
 use Rattle.machine.proofs.DesksKept.{kinds-apart}
 use Rattle.machine.proofs.Always.{invariant}
@@ -41,10 +41,10 @@ joined-nothing x m e t k = subst (λ a. has a t ≡ true) (union-included (x .se
 abbrev Covers : Message → Desk → Type 0
 Covers m x = (m .kind ≡ share → ⊥) → m .round ≡ x .round → _⊇_ (m .replica .set) (x .replica .set)
 
-abbrev AllCover : State → Type 0
+abbrev AllCover : PlainState → Type 0
 AllCover s = (m : Message) → In m (s .sent) → Covers m (s .desks (m .desk))
 
-module _ {c : Config} {h : History} {s : State} (inv : Invariant c h s) (p : AllCover s) where
+module _ {c : Config} {h : History} {s : PlainState} (inv : Invariant c h s) (p : AllCover s) where
   -- one desk changes: no message is of the round to come
   desk-covers : (d : ℕ) (y : Desk) → Goes (s .desks d) y → (m : Message) → In m (s .sent) → Covers m (put (s .desks) d y (m .desk))
   desk-covers d y goes m i =
@@ -73,7 +73,7 @@ module _ {c : Config} {h : History} {s : State} (inv : Invariant c h s) (p : All
   same : (x : Desk) → Goes x x
   same x = inr (refl, λ t e. e)
 
-  step-covers : (st : Step) → AllCover (take machine c s st .state)
+  step-covers : (st : Step) → AllCover (stepped c s st .state)
   step-covers st =
       moved c s (λ g z. AllCover (z .state)) st
       (record {
@@ -87,7 +87,7 @@ module _ {c : Config} {h : History} {s : State} (inv : Invariant c h s) (p : All
             λ i k place size m next e up f g l.
             one-more (s .desks) _ p
             (λ ns q t a.
-            reply-has-request m i (s .servers i .replica) t
+            reply-has-request m i (s .servers i) t
             (p m (nth-in (s .sent) k m f) (λ z. kinds-apart (sym g ∙ z) (λ b. omega arith)) q t a));
         begins = λ d t note e at l rests room. quiet d _ (inl refl);
         asks =
@@ -102,14 +102,14 @@ module _ {c : Config} {h : History} {s : State} (inv : Invariant c h s) (p : All
       })
 
 module _ (c : Config) (valid : validOf c ≡ true) (steps : List Step) where
-  abbrev r : Run
-  r = runOf c steps
+  abbrev r : PlainRun
+  r = runOf machine c steps
 
   all-cover : (k : ℕ) → AllCover (at r k)
   unfolding at
   all-cover zero = λ m i. absurd i
   all-cover (suc k) =
-      when-cases (λ z. AllCover (z .state)) (nth steps k) (nothing (at r k)) (take machine c (at r k)) (all-cover k)
+      when-cases (λ z. AllCover (z .state)) (nth steps k) (nothing (at r k)) (stepped c (at r k)) (all-cover k)
       (λ st e. step-covers (invariant c valid steps k) (all-cover k) st)
 
   -- a request or reply of desk d in its current round has the desk's set

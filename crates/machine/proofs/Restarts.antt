@@ -16,14 +16,14 @@ use Rattle.format.proofs.Marks.{stands-pos, stands-most}
 use Rattle.config.specs.declared.cluster.Config.{Config}
 use Rattle.machine.specs.Sets.{Transfer, Transfers, has, includes, missing, union}
 use Rattle.machine.specs.Parties.{Message, join, Task, Operation, Result, Activity, idle, running, ended, Desk}
-use Rattle.machine.specs.Calls.{Answer, unmade, done, wrote, told}
-use Rattle.machine.specs.Runs.{Step, result, nth, Made, Run, at, answerAt}
+use Rattle.machine.specs.Runs.{Answer, unmade, done, wrote, told, nth, at, answerAt, deskAt}
+use Rattle.machine.specs.Steps.{Step, result, runOf, PlainRun, machine}
+use Rattle.machine.specs.Seen.{resultIn, accepted, brings, brought, firstBrought, viewOf}
 use Rattle.machine.specs.Views.{Current, Ends, restartsMade, gain, Told, Restarts}
-use Rattle.machine.specs.Seen.{deskAt, resultIn, accepted, brings, brought, firstBrought, viewOf}
 use Rattle.machine.proofs.Branches.{when-cases}
 use Rattle.machine.proofs.Sets.{has-append, has-union, missing-none, missing-some, missing-same}
-use Rattle.machine.proofs.Moves.{moved}
-use Rattle.machine.proofs.Desks.{runOf, desk-moved}
+use Rattle.machine.proofs.Moves.{PlainMade, moved}
+use Rattle.machine.proofs.Desks.{desk-moved}
 use Rattle.machine.proofs.Performed.{NoBegin, current-earlier, current-ended, during, begins-is, gives-ended, ended-origin}
 
 -- ---- how a reply counts: 1 where it has a transfer that the desk's set lacks
@@ -42,8 +42,8 @@ Counts n (running o) = o .restarts ≡ n
 Counts n (ended x) = x .restarts ≡ n
 
 module _ (c : Config) (steps : List Step) where
-  abbrev r : Run
-  r = runOf c steps
+  abbrev r : PlainRun
+  r = runOf machine c steps
 
   -- ---- what a desk's set has
 
@@ -127,7 +127,7 @@ module _ (c : Config) (steps : List Step) where
   made : (d i k : ℕ) (t : Task) (x : Result) → Ends (viewOf r) d i t k x → x .restarts ≡ restartsMade (viewOf r) d i k
   unfolding restartsMade
   made d i k t x h =
-      subst (Counts (sum (suc k) (counted d i))) (gives-ended c steps d (suc k) x (h .after)) (counts d i (suc k) t (current-ended h))
+      subst (Counts (sum (suc k) (counted d i))) (gives-ended c steps d (suc k) x (h .after) .1) (counts d i (suc k) t (current-ended h))
 
   gained : (d i k : ℕ) → restartsMade (viewOf r) d i k ≤ gain (viewOf r) d i k
   unfolding restartsMade gain
@@ -189,7 +189,7 @@ module _ (c : Config) (steps : List Step) where
   reported : (q : ℕ) (x : Result) → answerAt r q ≡ told x → Told (viewOf r) q x
   unfolding answerAt
   reported q x =
-      when-cases (λ (z : Made). z .answer ≡ told x → Told (viewOf r) q x) (nth steps q) _ _ (apart unmade refl)
+      when-cases (λ (z : PlainMade). z .answer ≡ told x → Told (viewOf r) q x) (nth steps q) _ _ (apart unmade refl)
       (λ st s.
       moved c (at r q) (λ h z. z .answer ≡ told x → Told (viewOf r) q x) st
       (record {
@@ -229,5 +229,5 @@ module _ (c : Config) (steps : List Step) where
       apart : (a : Answer) → resultIn a ≡ none → a ≡ told x → Told (viewOf r) q x
       apart a e f = absurd (Option·none-ne-some x (sym e ∙ ap resultIn f))
 
-pub restarts : (c : Config) (steps : List Step) → Restarts (viewOf (runOf c steps))
+pub restarts : (c : Config) (steps : List Step) → Restarts (viewOf (runOf machine c steps))
 restarts c steps = record { reported = reported c steps; made = made c steps; gained = gained c steps; growth = growth c steps }

@@ -20,8 +20,9 @@ use Rattle.config.specs.Cluster.{validOf, startOf, totalOf, aboveOf}
 use Rattle.config.specs.declared.cluster.Config.{Config}
 use Rattle.machine.specs.Sets.{Transfers, has, union, tally, count, given, received, accounts, weightOf, quorumOf}
 use Rattle.machine.specs.Parties.{Replica, join, Message}
-use Rattle.machine.specs.Calls.{mostCount, refused, done, accept, refuse, given-away, transferBy}
-use Rattle.machine.specs.Runs.{machine, Step, transfer, State, put, nth, when, nothing, take, Run, at, answerAt}
+use Rattle.machine.specs.Runs.{refused, done, put, nth, when, nothing, at, answerAt}
+use Rattle.machine.specs.Calls.{mostCount, accept, refuse, given-away, transferBy}
+use Rattle.machine.specs.Steps.{machine, Step, transfer, runOf, PlainState, PlainRun}
 use Rattle.machine.specs.Seen.{accepted}
 use Rattle.machine.specs.Clauses.{Found}
 use Rattle.machine.proofs.Lists.{nth-in}
@@ -30,8 +31,8 @@ use Rattle.machine.proofs.Outcomes.{transfer-cases}
 use Rattle.machine.proofs.Histories.{Once, _⊇_}
 use Rattle.machine.proofs.Sets.{test-false, union-either, union-left, once-union}
 use Rattle.machine.proofs.Closed.{AllOf, received-part, given-part, closed-total}
-use Rattle.machine.proofs.Moves.{moved}
-use Rattle.machine.proofs.Desks.{runOf, put-cases}
+use Rattle.machine.proofs.Moves.{stepped, moved}
+use Rattle.machine.proofs.Desks.{put-cases}
 use Rattle.machine.proofs.Invariant.{own-whole}
 use Rattle.machine.proofs.GiftsKept.{weight-next}
 use Rattle.machine.proofs.Always.{invariant}
@@ -39,7 +40,7 @@ use Rattle.machine.proofs.Sheets.{found-closed, sheets}
 
 -- ---- Definitions 1 and 5, of every set found in a run
 
-module _ (c : Config) (valid : validOf c ≡ true) (steps : List Step) (k : ℕ) (a : Transfers) (found : Found (runOf c steps) k a) where
+module _ (c : Config) (valid : validOf c ≡ true) (steps : List Step) (k : ℕ) (a : Transfers) (found : Found (runOf machine c steps) k a) where
   -- Definition 1: the machine's quorums are the weighted majorities
   pub quorum-majority : (q : ℕ → Bool) → (quorumOf c a q ≡ true) ↔ WeightedMajority (c .n) (accounts c a) q
   unfolding quorumOf
@@ -122,35 +123,35 @@ unfolding weightOf weight
 weight-grows c a b o p more i own = difference-le _ _ _ _ (omega (arith, received-part b a more o i, given-part b a p i own))
 
 -- the weight of server i after the first k steps, on the set that it holds itself
-abbrev pub ownWeight : Run → ℕ → ℕ → ℤ
-ownWeight r k i = weightOf (r .config) (at r k .servers i .replica .set) i
+abbrev pub ownWeight : PlainRun → ℕ → ℕ → ℤ
+ownWeight r k i = weightOf (r .config) (at r k .servers i .set) i
 
 -- step k is an accepted transfer of server i
-pub record OwnTransfer (r : Run) (k i : ℕ) : Type 0 where
+pub record OwnTransfer (r : PlainRun) (k i : ℕ) : Type 0 where
   pub taker : ℕ
   pub amount : ℕ
   pub step : nth (r .steps) k ≡ some (transfer i taker amount)
   pub taken : answerAt r k ≡ done
 
 module _ (c : Config) (valid : validOf c ≡ true) (steps : List Step) (k i : ℕ) where
-  abbrev r : Run
-  r = runOf c steps
+  abbrev r : PlainRun
+  r = runOf machine c steps
 
-  abbrev s : State
+  abbrev s : PlainState
   s = at r k
 
   -- where server i comes to hold p, its weight is no lower than before step k, or step k is its transfer
   abbrev Kept : Replica → Type 0
   Kept p = (ownWeight r k i ≤ℤ weightOf c (p .set) i) ⊎ OwnTransfer r k i
 
-  same : Kept (s .servers i .replica)
+  same : Kept (s .servers i)
   same = inl (≤ℤ-refl (ownWeight r k i))
 
   -- what a message brings does not lower it
-  joined : (p : ℕ) (m : Message) → nth (s .sent) p ≡ some m → Kept (join (s .servers i .replica) (m .replica))
+  joined : (p : ℕ) (m : Message) → nth (s .sent) p ≡ some m → Kept (join (s .servers i) (m .replica))
   unfolding join
   joined p m e =
-      let a = s .servers i .replica .set in
+      let a = s .servers i .set in
       let b = m .replica .set in
       let inv = invariant c valid steps k in
       let here = inv .servers i .closed in
@@ -159,32 +160,31 @@ module _ (c : Config) (valid : validOf c ≡ true) (steps : List Step) (k i : �
       (weight-grows c a (union a b) (here .once) (once-union a b (here .once) (there .once)) (union-left a b) i
       (λ t f g. ⊎-elim (λ (p : has a t ≡ true). p) (λ (p : has b t ≡ true). own-whole inv there i t p g) (union-either a b t f)))
 
-  -- server x, crashed or not, comes to hold what f makes of its number
-  changed : (x : ℕ) (f : ℕ → Replica) (b : Bool) → (i ≡ x → Kept (f i)) → Kept (put (s .servers) x (record { replica = f x; crashed = b }) i .replica)
-  changed x f b here =
-      put-cases (λ y. Kept (y .replica)) (s .servers) x (record { replica = f x; crashed = b }) i (λ e. subst (λ y. Kept (f y)) e (here e)) (λ e. same)
+  -- server x comes to hold what f makes of its number
+  changed : (x : ℕ) (f : ℕ → Replica) → (i ≡ x → Kept (f i)) → Kept (put (s .servers) x (f x) i)
+  changed x f here = put-cases Kept (s .servers) x (f x) i (λ e. subst (λ y. Kept (f y)) e (here e)) (λ e. same)
 
-  by-step : (st : Step) → nth steps k ≡ some st → Kept (take machine c s st .state .servers i .replica)
+  by-step : (st : Step) → nth steps k ≡ some st → Kept (stepped c s st .state .servers i)
   unfolding answerAt
   by-step st is =
-      moved c s (λ h z. z ≡ take machine c s st → Kept (z .state .servers i .replica)) st
+      moved c s (λ h z. z ≡ stepped c s st → Kept (z .state .servers i)) st
       (record {
         still = λ a e z. same;
         tells = λ d y e seated f z. same;
-        crashes = λ x e l z. changed x (λ y. s .servers y .replica) true (λ f. same);
+        crashes = λ x e l z. same;
         gives = λ x j e q up g z.
-            changed x (λ y. given-away (s .servers y .replica) y j e) false
+            changed x (λ y. given-away (s .servers y) y j e)
             (λ f.
             inr
             (record {
               taker = j;
               amount = e;
               step = is ∙ ap some (q ∙ ap (λ y. transfer y j e) (sym f));
-              taken = ap (λ o. when o (nothing s) (take machine c s) .answer) is ∙ sym (ap (λ y. y .answer) z);
+              taken = ap (λ o. when o (nothing s) (stepped c s) .answer) is ∙ sym (ap (λ y. y .answer) z);
             }));
-        shares = λ x place size a e up z. changed x (λ y. s .servers y .replica) false (λ f. same);
-        takes = λ x p place size m a e up f g z. changed x (λ y. join (s .servers y .replica) (m .replica)) false (λ h. joined p m f);
-        replies = λ x p place size m a e up f g h z. changed x (λ y. join (s .servers y .replica) (m .replica)) false (λ h. joined p m f);
+        shares = λ x place size a e up z. changed x (λ y. s .servers y) (λ f. same);
+        takes = λ x p place size m a e up f g z. changed x (λ y. join (s .servers y) (m .replica)) (λ h. joined p m f);
+        replies = λ x p place size m a e up f g h z. changed x (λ y. join (s .servers y) (m .replica)) (λ h. joined p m f);
         begins = λ d t note e seated l rests room z. same;
         asks = λ d x place size o a e seated f l z. same;
         drops = λ d o e seated f z. same;
@@ -196,8 +196,8 @@ module _ (c : Config) (valid : validOf c ≡ true) (steps : List Step) (k i : �
       refl
 
   -- a server's weight is lower after step k only where step k is its own accepted transfer
-  pub own-transfers : ownWeight (runOf c steps) (suc k) i <ℤ ownWeight (runOf c steps) k i → OwnTransfer (runOf c steps) k i
+  pub own-transfers : ownWeight (runOf machine c steps) (suc k) i <ℤ ownWeight (runOf machine c steps) k i → OwnTransfer (runOf machine c steps) k i
   unfolding at
   own-transfers lower =
       ⊎-elim (λ (l : ownWeight r k i ≤ℤ ownWeight r (suc k) i). clashℤ lower l) (λ (o : OwnTransfer r k i). o)
-      (when-cases (λ z. Kept (z .state .servers i .replica)) (nth steps k) (nothing s) (take machine c s) same by-step)
+      (when-cases (λ z. Kept (z .state .servers i)) (nth steps k) (nothing s) (stepped c s) same by-step)

@@ -14,12 +14,11 @@ use Rattle.config.specs.declared.cluster.Config.{Config}
 use Rattle.config.proofs.Clusters.{valid-bounds, total-small}
 use Rattle.machine.specs.Sets.{Transfer, Transfers, has, union, tally, count, cell, given, received}
 use Rattle.machine.specs.Calls.{mostCount}
-use Rattle.machine.specs.Runs.{Step}
+use Rattle.machine.specs.Steps.{Step, runOf, machine}
 use Rattle.machine.specs.Clauses.{Found}
 use Rattle.machine.proofs.Histories.{History, Closed, Lawfully}
 use Rattle.machine.proofs.Sets.{tally-le, tally-zero}
 use Rattle.machine.proofs.Closed.{closed-each, count-none, count-most}
-use Rattle.machine.proofs.Desks.{runOf}
 use Rattle.machine.proofs.Always.{invariant}
 use Rattle.machine.proofs.Sheets.{found-closed, union-closed}
 use Rattle.machine.proofs.Rows.{givers-inside, given-cells, received-cells}
@@ -120,8 +119,8 @@ module _ (c : Config) (valid : validOf c ≡ true) {h : History} {a : Transfers}
 
 module _ (c : Config) (valid : validOf c ≡ true) (steps : List Step) where
   -- every set held or sent, and what two of them join to
-  pub found-range : (k : ℕ) (a : Transfers) → Found (runOf c steps) k a → SetRange c a
+  pub found-range : (k : ℕ) (a : Transfers) → Found (runOf machine c steps) k a → SetRange c a
   found-range k a f = closed-range c valid (invariant c valid steps k .lawful) (found-closed c valid steps k a f)
 
-  pub union-range : (k l : ℕ) (a b : Transfers) → Found (runOf c steps) k a → Found (runOf c steps) l b → SetRange c (union a b)
+  pub union-range : (k l : ℕ) (a b : Transfers) → Found (runOf machine c steps) k a → Found (runOf machine c steps) l b → SetRange c (union a b)
   union-range k l a b f g = closed-range c valid (invariant c valid steps (k + l) .lawful) (union-closed c valid steps k l a b f g)

@@ -14,7 +14,8 @@ use Rattle.config.specs.Cluster.{validOf, startOf, totalOf, aboveOf}
 use Rattle.config.specs.declared.cluster.Config.{Config}
 use Rattle.config.proofs.Clusters.{valid-bounds}
 use Rattle.machine.specs.Sets.{Transfers, has, union, count, accounts, weightOf, quorumOf}
-use Rattle.machine.specs.Runs.{Step, nth, when, Run, at}
+use Rattle.machine.specs.Runs.{nth, when, at}
+use Rattle.machine.specs.Steps.{Step, runOf, PlainRun, machine}
 use Rattle.machine.specs.Clauses.{Found, by-server, by-desk, by-message, Sound, Sheets}
 use Rattle.machine.proofs.Lists.{In, nth-in}
 use Rattle.machine.proofs.Places.{from-on}
@@ -24,7 +25,6 @@ use Rattle.machine.proofs.Numbers.{Numbered, no-gap}
 use Rattle.machine.proofs.QuestionFour.{quorums-share-counted}
 use Rattle.machine.proofs.GiftsKept.{started}
 use Rattle.machine.proofs.Moves.{giftOf}
-use Rattle.machine.proofs.Desks.{runOf}
 use Rattle.machine.proofs.Always.{historyAt, invariant}
 
 -- ---- closed sets are sound
@@ -45,8 +45,8 @@ closed-grown [] h a k = k
 closed-grown (x ∷ g) h a k = closed-more x (g ++ h) a (closed-grown g h a k)
 
 module _ (c : Config) (valid : validOf c ≡ true) (steps : List Step) where
-  abbrev r : Run
-  r = runOf c steps
+  abbrev r : PlainRun
+  r = runOf machine c steps
 
   closed-later : (k l : ℕ) (a : Transfers) → k ≤ l → Closed (historyAt c steps k) a → Closed (historyAt c steps l) a
   unfolding historyAt

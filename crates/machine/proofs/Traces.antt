@@ -6,32 +6,33 @@ use mathlib.Core.Logic.{_⊎_, inl, inr}
 use mathlib.Core.List.{List, [], _∷_, _++_, append-nil}
 use mathlib.Core.Option.{some}
 use Rattle.config.specs.declared.cluster.Config.{Config}
-use Rattle.machine.specs.Parties.{Register, start, join, Message, Server, write, Phase, first, second, Operation, Result, Activity, idle, running, ended, Desk}
+use Rattle.machine.specs.Parties.{Register, start, Replica, join, Message, write, Phase, first, second, Operation, Result, Activity, idle, running, ended, Desk}
+use Rattle.machine.specs.Runs.{put, nth, nothing, at, deskAt}
 use Rattle.machine.specs.Calls.{chosen, served}
-use Rattle.machine.specs.Runs.{machine, Step, State, put, nth, nothing, take, Run, at}
+use Rattle.machine.specs.Steps.{machine, Step, runOf, PlainState, PlainRun}
+use Rattle.machine.specs.Seen.{viewOf}
 use Rattle.machine.specs.Views.{Current, Chose}
-use Rattle.machine.specs.Seen.{deskAt, viewOf}
 use Rattle.machine.proofs.Lists.{In, each-append, each-one, nth-in}
 use Rattle.machine.proofs.Branches.{when-cases, task-cases}
-use Rattle.machine.proofs.Moves.{moved}
-use Rattle.machine.proofs.Desks.{runOf, put-cases, desk-moved}
+use Rattle.machine.proofs.Moves.{stepped, moved}
+use Rattle.machine.proofs.Desks.{put-cases, desk-moved}
 use Rattle.machine.proofs.Performed.{running-origin, runs-chosen}
 use Rattle.machine.proofs.Joins.{join-either}
 
 -- a write of the list chose g
-pub record Written (r : Run) (g : Register) : Type 0 where
+pub record Written (r : PlainRun) (g : Register) : Type 0 where
   pub desk : ℕ
   pub begun : ℕ
   pub bytes : List ℕ
   pub chose : Chose (viewOf r) desk begun (write bytes) g
 
 -- g is the start or a write's
-abbrev pub Traced : Run → Register → Type 0
+abbrev pub Traced : PlainRun → Register → Type 0
 Traced r g = (g ≡ start) ⊎ Written r g
 
 -- a register that is held by a server or a desk, chosen by an operation that runs, told as a result, or sent, after the first k steps
-pub data Carries (r : Run) (k : ℕ) (g : Register) : Type 0 where
-  by-server : (i : ℕ) → at r k .servers i .replica .register ≡ g → Carries r k g
+pub data Carries (r : PlainRun) (k : ℕ) (g : Register) : Type 0 where
+  by-server : (i : ℕ) → at r k .servers i .register ≡ g → Carries r k g
   by-desk : (d : ℕ) → deskAt r d k .replica .register ≡ g → Carries r k g
   by-operation : (d : ℕ) (o : Operation) → deskAt r d k .activity ≡ running o → o .phase ≡ second g → Carries r k g
   by-result : (d : ℕ) (y : Result) → deskAt r d k .activity ≡ ended y → y .register ≡ g → Carries r k g
@@ -39,48 +40,48 @@ pub data Carries (r : Run) (k : ℕ) (g : Register) : Type 0 where
 
 -- ---- the registers of a state
 
-abbrev PhaseTraced : Run → Phase → Type 0
+abbrev PhaseTraced : PlainRun → Phase → Type 0
 PhaseTraced r first = Unit
 PhaseTraced r (second g) = Traced r g
 
-abbrev ActivityTraced : Run → Activity → Type 0
+abbrev ActivityTraced : PlainRun → Activity → Type 0
 ActivityTraced r idle = Unit
 ActivityTraced r (running o) = PhaseTraced r (o .phase)
 ActivityTraced r (ended y) = Traced r (y .register)
 
 -- the registers of a desk: the one held, and the one chosen or told
-record DeskTraced (r : Run) (x : Desk) : Type 0 where
+record DeskTraced (r : PlainRun) (x : Desk) : Type 0 where
   replica : Traced r (x .replica .register)
   activity : ActivityTraced r (x .activity)
 
 -- the registers of servers and of messages
-abbrev ServersTraced : Run → (ℕ → Server) → Type 0
-ServersTraced r f = (i : ℕ) → Traced r (f i .replica .register)
+abbrev ServersTraced : PlainRun → (ℕ → Replica) → Type 0
+ServersTraced r f = (i : ℕ) → Traced r (f i .register)
 
-abbrev SentTraced : Run → List Message → Type 0
+abbrev SentTraced : PlainRun → List Message → Type 0
 SentTraced r l = (m : Message) → In m l → Traced r (m .replica .register)
 
-abbrev OthersTraced : Run → State → Type 0
+abbrev OthersTraced : PlainRun → PlainState → Type 0
 OthersTraced r s = ServersTraced r (s .servers) × SentTraced r (s .sent)
 
-record StateTraced (r : Run) (s : State) : Type 0 where
+record StateTraced (r : PlainRun) (s : PlainState) : Type 0 where
   servers : ServersTraced r (s .servers)
   desks : (d : ℕ) → DeskTraced r (s .desks d)
   sent : SentTraced r (s .sent)
 
 -- a server changed, a message sent, or none
-put-traced : (r : Run) (f : ℕ → Server) (i : ℕ) (x : Server) → ServersTraced r f → Traced r (x .replica .register) → ServersTraced r (put f i x)
-put-traced r f i x p q j = put-cases (λ y. Traced r (y .replica .register)) f i x j (λ e. q) (λ e. p j)
+put-traced : (r : PlainRun) (f : ℕ → Replica) (i : ℕ) (x : Replica) → ServersTraced r f → Traced r (x .register) → ServersTraced r (put f i x)
+put-traced r f i x p q j = put-cases (λ y. Traced r (y .register)) f i x j (λ e. q) (λ e. p j)
 
-sent-one : (r : Run) (l : List Message) (m : Message) → SentTraced r l → Traced r (m .replica .register) → SentTraced r (l ++ (m ∷ []))
+sent-one : (r : PlainRun) (l : List Message) (m : Message) → SentTraced r l → Traced r (m .replica .register) → SentTraced r (l ++ (m ∷ []))
 sent-one r l m p q = each-append (λ y. Traced r (y .replica .register)) l (m ∷ []) p (each-one (λ y. Traced r (y .replica .register)) m q)
 
-sent-none : (r : Run) (l : List Message) → SentTraced r l → SentTraced r (l ++ [])
+sent-none : (r : PlainRun) (l : List Message) → SentTraced r l → SentTraced r (l ++ [])
 sent-none r l p = subst (SentTraced r) (sym (append-nil l)) p
 
 module _ (c : Config) (steps : List Step) where
-  abbrev r : Run
-  r = runOf c steps
+  abbrev r : PlainRun
+  r = runOf machine c steps
 
   -- ---- servers and messages
 
@@ -88,16 +89,16 @@ module _ (c : Config) (steps : List Step) where
   unfolding at
   others-traced k h =
       let s = at r k in
-      let joined : (i p : ℕ) (m : Message) → nth (s .sent) p ≡ some m → Traced r (served (s .servers i .replica) m .register) =
-      λ i p m e. join-either (Traced r) (s .servers i .replica) (m .replica) (h .servers i) (h .sent m (nth-in (s .sent) p m e)) in
+      let joined : (i p : ℕ) (m : Message) → nth (s .sent) p ≡ some m → Traced r (served (s .servers i) m .register) =
+      λ i p m e. join-either (Traced r) (s .servers i) (m .replica) (h .servers i) (h .sent m (nth-in (s .sent) p m e)) in
       let quiet : ServersTraced r (s .servers) × SentTraced r (s .sent ++ []) = (h .servers, sent-none r (s .sent) (h .sent)) in
-      when-cases (λ z. OthersTraced r (z .state)) (nth steps k) (nothing s) (take machine c s) (h .servers, h .sent)
+      when-cases (λ z. OthersTraced r (z .state)) (nth steps k) (nothing s) (stepped c s) (h .servers, h .sent)
       (λ st e.
       moved c s (λ l z. OthersTraced r (z .state)) st
       (record {
         still = λ a f. (h .servers, h .sent);
         tells = λ d y f seated g. (h .servers, h .sent);
-        crashes = λ i f l. (put-traced r (s .servers) i _ (h .servers) (h .servers i), h .sent);
+        crashes = λ i f l. (h .servers, h .sent);
         gives = λ i j amount f up g. (put-traced r (s .servers) i _ (h .servers) (h .servers i), quiet .1);
         shares =
             λ i place size next f up. (put-traced r (s .servers) i _ (h .servers) (h .servers i), sent-one r (s .sent) _ (h .sent) (h .servers i));

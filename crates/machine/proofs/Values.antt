@@ -7,10 +7,10 @@ use mathlib.Core.Logic.{inl, inr}
 use mathlib.Core.List.{List}
 use Rattle.config.specs.declared.cluster.Config.{Config}
 use Rattle.machine.specs.Parties.{Register, start, write}
-use Rattle.machine.specs.Runs.{Step, Run}
+use Rattle.machine.specs.Runs.{deskAt}
+use Rattle.machine.specs.Steps.{Step, runOf, PlainRun, machine}
+use Rattle.machine.specs.Seen.{viewOf}
 use Rattle.machine.specs.Views.{View, Begins, Chose, SameTag, Source, Values}
-use Rattle.machine.specs.Seen.{deskAt, viewOf}
-use Rattle.machine.proofs.Desks.{runOf}
 use Rattle.machine.proofs.Performed.{gives-ended, chosen-runs}
 use Rattle.machine.proofs.Registers.{write-own, write-once}
 use Rattle.machine.proofs.Traces.{Written, Traced, Carries, by-operation, by-result, traced}
@@ -24,8 +24,8 @@ same-register : (g h : Register) → SameTag g h → g .value ≡ h .value → g
 same-register g h s v = λ i. record { stamp = s .0 i; desk = s .1 i; value = v i }
 
 module _ (c : Config) (steps : List Step) where
-  abbrev r : Run
-  r = runOf c steps
+  abbrev r : PlainRun
+  r = runOf machine c steps
 
   -- the value of a register that a write chose are the bytes given to its begin
   written-value : (g : Register) (w : Written r g) → g .value ≡ w .bytes
@@ -79,6 +79,6 @@ module _ (c : Config) (steps : List Step) where
             source g (traced c steps (h .place) g (by-operation d (two .operation) (two .runs) (two .phase-two)));
         returned =
             λ d i k x h.
-            let is = gives-ended c steps d (suc k) x (h .after) in
+            let is = gives-ended c steps d (suc k) x (h .after) .1 in
             source (x .register) (traced c steps (suc k) (x .register) (by-result d x is refl));
       }

@@ -4,16 +4,15 @@ use mathlib.Core.Bool.{true}
 use mathlib.Core.List.{List}
 use Rattle.config.specs.Cluster.{validOf}
 use Rattle.config.specs.declared.cluster.Config.{Config}
-use Rattle.machine.specs.Runs.{Step}
+use Rattle.machine.specs.Steps.{Step, runOf, machine}
 use Rattle.machine.specs.Clauses.{Clauses}
-use Rattle.machine.proofs.Desks.{runOf}
 use Rattle.machine.proofs.Order.{order}
 use Rattle.machine.proofs.Values.{values}
 use Rattle.machine.proofs.Results.{results}
 use Rattle.machine.proofs.Restarts.{restarts}
 use Rattle.machine.proofs.Sheets.{sheets}
 
-pub clauses : (c : Config) → validOf c ≡ true → (steps : List Step) → Clauses (runOf c steps)
+pub clauses : (c : Config) → validOf c ≡ true → (steps : List Step) → Clauses (runOf machine c steps)
 clauses c valid steps =
     record {
       order = order c valid steps;

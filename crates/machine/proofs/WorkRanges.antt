@@ -6,19 +6,20 @@ use mathlib.Core.Path.{_≡_, refl, sym, ap, _∙_, subst}
 use mathlib.Core.Logic.{⊎-elim}
 use mathlib.Core.Bool.{false}
 use mathlib.Core.List.{List, [], _∷_, _++_}
-use mathlib.Core.Option.{some, Option·none-ne-some, Option·some-injective}
+use mathlib.Core.Option.{some}
 use borrow.Author.Tests.{leb-false}
 use lib.ListN.{length}
 use Rattle.config.specs.Cluster.{mostStamp}
 use Rattle.config.specs.declared.cluster.Config.{Config}
-use Rattle.machine.specs.Parties.{Register, join, share, Message, Task, write, valueOf, Phase, second, Operation, Result, Activity, idle, running, ended, Desk, Server}
-use Rattle.machine.specs.Calls.{mostRound, mostValue, done, accept, begun, restarted, no-stamp, chosen, moved-on, finished, marked, dropped}
-use Rattle.machine.specs.Runs.{machine, Step, State, put, nth, nothing, take, afterDesk, at}
-use Rattle.machine.specs.Typed.{Bytes, TypedStep, Typed}
+use Rattle.machine.specs.Parties.{Register, Replica, join, share, Message, Task, write, valueOf, Phase, second, Operation, Result, Activity, idle, running, ended, Desk}
+use Rattle.machine.specs.Runs.{done, put, nth, nothing, afterDesk, at}
+use Rattle.machine.specs.Calls.{mostRound, mostValue, accept, begun, restarted, no-stamp, chosen, moved-on, finished, marked, dropped}
+use Rattle.machine.specs.Steps.{machine, Step, begin, runOf, PlainState}
+use Rattle.machine.specs.Typed.{Bytes, TypedBegin, Typed}
 use Rattle.machine.proofs.Lists.{In, in-left, nth-in, each-append, each-one}
 use Rattle.machine.proofs.Branches.{when-cases}
-use Rattle.machine.proofs.Moves.{Seated, moved}
-use Rattle.machine.proofs.Desks.{runOf, put-cases}
+use Rattle.machine.proofs.Moves.{stepped, Seated, moved}
+use Rattle.machine.proofs.Desks.{put-cases}
 use Rattle.machine.proofs.DesksKept.{kinds-apart}
 
 -- a message without its replica: requests and replies have a desk and a round, shares have neither of them, nor a note
@@ -78,19 +79,19 @@ work-grows c l k d x w = record { round = w .round; activity = activity-grows c 
 
 -- ---- what is followed from step to step
 
-pub record Kept (c : Config) (s : State) : Type 0 where
+pub record Kept (c : Config) (s : PlainState) : Type 0 where
   pub desks : (d : ℕ) → WorkRange c (s .sent) d (s .desks d)
   pub heads : (m : Message) → In m (s .sent) → HeadRange c m
 
-module _ {c : Config} {s : State} (k : Kept c s) where
-  abbrev with : (ℕ → Server) → (ℕ → Desk) → List Message → State
-  with servers desks l = record { servers = servers; desks = desks; sent = s .sent ++ l }
+module _ {c : Config} {s : PlainState} (k : Kept c s) where
+  abbrev with : (ℕ → Replica) → (ℕ → Desk) → List Message → PlainState
+  with servers desks l = record { servers = servers; crashed = s .crashed; desks = desks; sent = s .sent ++ l }
 
   heads-grow : (l : List Message) → ((m : Message) → In m l → HeadRange c m) → (m : Message) → In m (s .sent ++ l) → HeadRange c m
   heads-grow l new = each-append (HeadRange c) (s .sent) l (k .heads) new
 
   -- one server or one desk changes, and messages are sent at most
-  server-kept : (f : ℕ → Server) (l : List Message) → ((m : Message) → In m l → HeadRange c m) → Kept c (with f (s .desks) l)
+  server-kept : (f : ℕ → Replica) (l : List Message) → ((m : Message) → In m l → HeadRange c m) → Kept c (with f (s .desks) l)
   server-kept f l new = record { desks = λ d. work-grows c (s .sent) l d (s .desks d) (k .desks d); heads = heads-grow l new }
 
   desk-kept : (d : ℕ) (y : Desk) (l : List Message) → WorkRange c (s .sent ++ l) d y → ((m : Message) → In m l → HeadRange c m)
@@ -139,7 +140,7 @@ module _ {c : Config} {s : State} (k : Kept c s) where
       let stamp : suc (h .stamp) ≡ g .stamp = ap (λ z. chosen d z h .stamp) (sym e) ∙ ap (λ z. z .stamp) is in
       omega arith
 
-  step-kept : (st : Step) → TypedStep st → Kept c (take machine c s st .state)
+  step-kept : (st : Step) → ((d : ℕ) (t : Task) (note : ℕ) → st ≡ begin d t note → TypedBegin t note) → Kept c (stepped c s st .state)
   step-kept st typed =
       moved c s (λ h z. Kept c (z .state)) st
       (record {
@@ -165,7 +166,7 @@ module _ {c : Config} {s : State} (k : Kept c s) where
             }));
         begins =
             λ d t note e at l rests room.
-            let given = subst TypedStep e typed in
+            let given = typed d t note e in
             quiet d (begun (s .desks d) t note)
             (record {
               round = room;
@@ -173,9 +174,9 @@ module _ {c : Config} {s : State} (k : Kept c s) where
                   record {
                     seated = at;
                     begun = omega arith;
-                    note = given .2;
+                    note = given .1;
                     short = l;
-                    bytes = given .1;
+                    bytes = given .0;
                     restarts = omega arith;
                     heard = λ m i. absurd i;
                     stamp = λ v g a b. let z : _≡_ {A = ℕ} 0 1 = cc in absurd (omega arith);
@@ -237,16 +238,10 @@ module _ {c : Config} {s : State} (k : Kept c s) where
 
 -- ---- every place of a run
 
--- each step of a list has arguments that a call can have
-pub typed-step : (steps : List Step) → Typed steps → (k : ℕ) (st : Step) → nth steps k ≡ some st → TypedStep st
-typed-step [] t k st e = absurd (Option·none-ne-some st e)
-typed-step (x ∷ steps) t zero st e = subst TypedStep (Option·some-injective x st e) (t .0)
-typed-step (x ∷ steps) t (suc k) st e = typed-step steps (t .1) k st e
-
-pub kept : (c : Config) (steps : List Step) → Typed steps → (k : ℕ) → Kept c (at (runOf c steps) k)
+pub kept : (c : Config) (steps : List Step) → Typed steps → (k : ℕ) → Kept c (at (runOf machine c steps) k)
 unfolding at
 kept c steps typed zero = record { desks = λ d. record { round = omega arith; activity = tt }; heads = λ m i. absurd i }
 kept c steps typed (suc k) =
-    let s = at (runOf c steps) k in
-    when-cases (λ z. Kept c (z .state)) (nth steps k) (nothing s) (take machine c s) (kept c steps typed k)
-    (λ st e. step-kept (kept c steps typed k) st (typed-step steps typed k st e))
+    let s = at (runOf machine c steps) k in
+    when-cases (λ z. Kept c (z .state)) (nth steps k) (nothing s) (stepped c s) (kept c steps typed k)
+    (λ st e. step-kept (kept c steps typed k) st (λ d t note f. typed k d t note (e ∙ ap some f)))

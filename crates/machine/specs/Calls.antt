@@ -2,14 +2,15 @@
 -- A call takes what a party holds and gives an answer, what the party holds then, and the message sent, if any.
 use Prim.Native.Nat.{ℕ, suc, _+_}
 use mathlib.Core.Bool.{Bool, false, cond}
-use mathlib.Core.List.{List, [], _∷_}
+use mathlib.Core.List.{[], _∷_}
 use lib.Dec.{eqb, leb, ltb}
 use lib.IntN.{pos, _-ℤ_}
 use lib.ListN.{length}
 use Rattle.config.specs.Cluster.{aboveOf, mostStamp}
 use Rattle.config.specs.declared.cluster.Config.{Config}
 use Rattle.machine.specs.Sets.{includes, count, weightOf, quorumOf}
-use Rattle.machine.specs.Parties.{Register, Replica, join, request, reply, share, Message, by-kind, bytesOf, Task, by-task, writes, valueOf, first, second, by-phase, Operation, Result, idle, running, ended, if-running, if-ended, Desk, answered}
+use Rattle.machine.specs.Parties.{Register, Replica, join, request, reply, share, Message, by-kind, bytesOf, Task, by-task, writes, valueOf, first, second, by-phase, Operation, idle, running, ended, if-running, if-ended, Desk, answered}
+use Rattle.machine.specs.Runs.{Answer, late, refused, done, wrote, told, Outcome}
 
 -- the last count, round and length of a value
 abbrev pub mostCount : ℕ
@@ -21,32 +22,16 @@ mostRound = 4294967295
 abbrev pub mostValue : ℕ
 mostValue = 64
 
--- What a step gives: nothing where no call was made; "late"; a number; or accepted, with what is handed back besides the record: the place after
--- the message, or the result.
-pub data Answer : Type 0 where
-  unmade : Answer
-  late : Answer
-  refused : ℕ → Answer
-  done : Answer
-  wrote : ℕ → Answer
-  told : Result → Answer
-
--- what a call comes to: its answer, what the party holds then, and the messages sent
-pub record Outcome (A : Type 0) : Type 0 where
-  pub answer : Answer
-  pub party : A
-  pub sent : List Message
-
 -- accepted, and nothing sent
-abbrev pub accept : {A : Type 0} → Answer → A → Outcome A
+abbrev pub accept : {A : Type 0} → Answer → A → Outcome Message A
 accept a x = record { answer = a; party = x; sent = [] }
 
 -- nothing changes and nothing is sent
-abbrev pub refuse : {A : Type 0} → ℕ → A → Outcome A
+abbrev pub refuse : {A : Type 0} → ℕ → A → Outcome Message A
 refuse k x = record { answer = refused k; party = x; sent = [] }
 
 -- the message m is written from a place on, where it fits into the buffer, and sent; otherwise 13
-unfoldable pub send : {A : Type 0} → Config → A → A → Message → ℕ → ℕ → Outcome A
+unfoldable pub send : {A : Type 0} → Config → A → A → Message → ℕ → ℕ → Outcome Message A
 send c old new m place size =
     let next = place + length (bytesOf c m) in
     cond (leb next size) (record { answer = wrote next; party = new; sent = m ∷ [] }) (refuse 13 old)
@@ -63,7 +48,7 @@ abbrev pub spares : Config → Replica → ℕ → ℕ → Bool
 spares c r i d = aboveOf c (weightOf c (r .set) i -ℤ pos d)
 
 -- Transfer: 11, 12, then 10.
-unfoldable pub transferBy : Config → ℕ → Replica → ℕ → ℕ → Outcome Replica
+unfoldable pub transferBy : Config → ℕ → Replica → ℕ → ℕ → Outcome Message Replica
 transferBy c i r j d =
     cond (eqb j i) (refuse 11 r)
     (cond (leb (c .n) j) (refuse 11 r)
@@ -72,7 +57,7 @@ transferBy c i r j d =
     (cond (spares c r i d) (accept done (given-away r i j d)) (refuse 10 r)))))
 
 -- Share: the pair is sent, or 13.
-unfoldable pub shareBy : Config → ℕ → Replica → ℕ → ℕ → Outcome Replica
+unfoldable pub shareBy : Config → ℕ → Replica → ℕ → ℕ → Outcome Message Replica
 shareBy c i r place size = send c r r (record { kind = share; server = i; desk = 0; round = 0; note = 0; replica = r }) place size
 
 -- the reply to a request: its desk, round and note, and what server i holds
@@ -84,11 +69,11 @@ abbrev pub served : Replica → Message → Replica
 served r m = join r (m .replica)
 
 -- a request is joined, then replied to
-unfoldable pub answerRequest : Config → ℕ → Replica → Message → ℕ → ℕ → Outcome Replica
+unfoldable pub answerRequest : Config → ℕ → Replica → Message → ℕ → ℕ → Outcome Message Replica
 answerRequest c i r m place size = send c r (served r m) (replyTo m i (served r m)) place size
 
 -- Serve: 7, then 13 for a request; a share is joined, and nothing is written.
-unfoldable pub serveBy : Config → ℕ → Replica → Message → ℕ → ℕ → Outcome Replica
+unfoldable pub serveBy : Config → ℕ → Replica → Message → ℕ → ℕ → Outcome Message Replica
 serveBy c i r m place size =
     by-kind (m .kind) (cond (eqb (m .server) i) (answerRequest c i r m place size) (refuse 7 r)) (refuse 7 r)
     (accept (wrote place) (served r m))
@@ -105,7 +90,7 @@ begun x t note =
     }
 
 -- Begin: 14, 8, then 12.
-unfoldable pub beginBy : Config → Desk → Task → ℕ → Outcome Desk
+unfoldable pub beginBy : Config → Desk → Task → ℕ → Outcome Message Desk
 beginBy c x t note =
     cond (ltb mostValue (length (valueOf t))) (refuse 14 x)
     (if-running (x .activity) (λ o. refuse 8 x)
@@ -116,7 +101,7 @@ abbrev pub requestOf : ℕ → Desk → Operation → ℕ → Message
 requestOf d x o i = record { kind = request; server = i; desk = d; round = x .round; note = o .note; replica = x .replica }
 
 -- Ask: 9, 1, then 13.
-unfoldable pub askBy : Config → ℕ → Desk → ℕ → ℕ → ℕ → Outcome Desk
+unfoldable pub askBy : Config → ℕ → Desk → ℕ → ℕ → ℕ → Outcome Message Desk
 askBy c d x i place size =
     if-running (x .activity) (λ o. cond (ltb i (c .n)) (send c x x (requestOf d x o i) place size) (refuse 1 x)) (refuse 9 x)
 
@@ -134,7 +119,7 @@ restarted x o m =
       activity = running (record { task = o .task; note = o .note; phase = o .phase; heard = []; restarts = suc (o .restarts) });
     }
 
-unfoldable pub restart : Desk → Operation → Message → Outcome Desk
+unfoldable pub restart : Desk → Operation → Message → Outcome Message Desk
 restart x o m = cond (leb mostRound (x .round)) (refuse 12 x) (accept done (restarted x o m))
 
 -- The register that phase 1 chooses, where r is held: a read that one, a write stamp + 1, its own number and the new value.
@@ -162,7 +147,7 @@ moved-on d x o p =
           });
     }
 
-unfoldable pub choose : Config → ℕ → Desk → Operation → Replica → Outcome Desk
+unfoldable pub choose : Config → ℕ → Desk → Operation → Replica → Outcome Message Desk
 choose c d x o p =
     cond (leb mostRound (x .round)) (refuse 12 x)
     (cond (no-stamp c (o .task) (p .register)) (refuse 12 x) (accept done (moved-on d x o p)))
@@ -180,14 +165,14 @@ marked x o p m =
       activity = running (record { task = o .task; note = o .note; phase = o .phase; heard = m ∷ o .heard; restarts = o .restarts });
     }
 
-unfoldable pub mark : Config → ℕ → Desk → Operation → Message → Outcome Desk
+unfoldable pub mark : Config → ℕ → Desk → Operation → Message → Outcome Message Desk
 mark c d x o m =
     let p = join (x .replica) (m .replica) in
     cond (quorumOf c (p .set) (answered (m ∷ o .heard))) (by-phase (o .phase) (choose c d x o p) (λ g. accept done (finished x o p g)))
     (accept done (marked x o p m))
 
 -- Hear: 7; "late" if no operation runs or the round is not the current one; then as above.
-unfoldable pub hearBy : Config → ℕ → Desk → Message → Outcome Desk
+unfoldable pub hearBy : Config → ℕ → Desk → Message → Outcome Message Desk
 hearBy c d x m =
     by-kind (m .kind) (refuse 7 x)
     (cond (eqb (m .desk) d)
@@ -198,7 +183,7 @@ hearBy c d x m =
     (refuse 7 x)
 
 -- Result: that of the operation that has ended, or 9.
-unfoldable pub resultBy : Desk → Outcome Desk
+unfoldable pub resultBy : Desk → Outcome Message Desk
 resultBy x = if-ended (x .activity) (λ r. accept (told r) x) (refuse 9 x)
 
 -- no operation runs any more
@@ -206,5 +191,5 @@ abbrev pub dropped : Desk → Desk
 dropped x = record { replica = x .replica; round = x .round; activity = idle }
 
 -- Drop: 9 if no operation runs; otherwise it is gone.
-unfoldable pub dropBy : Desk → Outcome Desk
+unfoldable pub dropBy : Desk → Outcome Message Desk
 dropBy x = if-running (x .activity) (λ o. accept done (dropped x)) (refuse 9 x)

@@ -10,15 +10,16 @@ use Rattle.config.specs.Cluster.{totalOf, aboveOf}
 use Rattle.config.specs.declared.cluster.Config.{Config}
 use Rattle.machine.specs.Sets.{Transfers, accounts, weightOf, quorumOf}
 use Rattle.machine.specs.Parties.{Message}
-use Rattle.machine.specs.Runs.{Run, nth, at}
+use Rattle.machine.specs.Runs.{nth, at}
+use Rattle.machine.specs.Steps.{PlainRun}
 use Rattle.machine.specs.Views.{Order, Values, Results, Restarts}
 use Rattle.machine.specs.Seen.{viewOf}
 
 -- ---- sheets
 
 -- a set that is held by a server or a desk, or was sent, after the first k steps
-pub data Found (r : Run) (k : ℕ) (a : Transfers) : Type 0 where
-  by-server : (i : ℕ) → at r k .servers i .replica .set ≡ a → Found r k a
+pub data Found (r : PlainRun) (k : ℕ) (a : Transfers) : Type 0 where
+  by-server : (i : ℕ) → at r k .servers i .set ≡ a → Found r k a
   by-desk : (d : ℕ) → at r k .desks d .replica .set ≡ a → Found r k a
   by-message : (p : ℕ) (m : Message) → nth (at r k .sent) p ≡ some m → m .replica .set ≡ a → Found r k a
 
@@ -29,13 +30,13 @@ pub record Sound (c : Config) (a : Transfers) : Type 0 where
   pub majority : (q : ℕ → Bool) → c .n - c .f ≤ size (c .n) q → quorumOf c a q ≡ true
 
 -- so it is on every sheet held or sent
-abbrev pub Sheets : Run → Type 0
+abbrev pub Sheets : PlainRun → Type 0
 Sheets r = (k : ℕ) (a : Transfers) → Found r k a → Sound (r .config) a
 
 -- ---- together
 
 -- what demand 3 says of a run, apart from its equality with the plain machine
-pub record Clauses (r : Run) : Type 0 where
+pub record Clauses (r : PlainRun) : Type 0 where
   pub order : Order (viewOf r)
   pub values : Values (viewOf r)
   pub results : Results (viewOf r)

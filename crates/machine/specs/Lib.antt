@@ -1,9 +1,10 @@
--- Definitions, in reading order: sets of transfers, what the parties hold, the calls, the runs; what the clauses of demand 3 look at, and the clauses;
--- what is seen of a run; the sheets; and the arguments that a call can have.
+-- Definitions, in reading order: sets of transfers, what the parties hold, the structure of a run; the plain machine's calls and steps; what the clauses
+-- of demand 3 look at, and the clauses; what is seen of a run; the sheets; and the arguments that a call can have.
 pub mod Sets
 pub mod Parties
-pub mod Calls
 pub mod Runs
+pub mod Calls
+pub mod Steps
 pub mod Views
 pub mod Seen
 pub mod Clauses

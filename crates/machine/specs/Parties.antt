@@ -85,12 +85,7 @@ fieldsOf m =
 unfoldable pub bytesOf : Config → Message → List ℕ
 bytesOf c m = encodeFields c (fieldsOf m)
 
--- ---- servers and desks
-
--- what a server holds, and its crashed mark
-pub record Server : Type 0 where
-  pub replica : Replica
-  pub crashed : Bool
+-- ---- desks; what a server holds is a replica
 
 -- what an operation is to do: read, or write a value
 pub data Task : Type 0 where
@@ -155,6 +150,10 @@ pub record Desk : Type 0 where
   pub replica : Replica
   pub round : ℕ
   pub activity : Activity
+
+-- a desk before its first call
+abbrev pub freshDesk : Desk
+freshDesk = record { replica = fresh; round = 0; activity = idle }
 
 -- whether server i is among those that answered
 unfoldable pub answered : List Message → ℕ → Bool

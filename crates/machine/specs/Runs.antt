@@ -1,65 +1,13 @@
--- The runs of demand 3 (paper 01): every list of steps, from a fresh cluster. A store is what its calls do; the plain machine is the store whose
--- calls are the paper's.
+-- The structure of a run (paper 01, "The runs of demand 3"): who takes a step, which desks there are, which messages a call can take, and what a crash
+-- does. It stands once, for the plain machine, for other stores and for the program: S is what a server holds, D what a desk holds, M a message and T a
+-- step.
 use Prim.Native.Nat.{ℕ, zero, suc}
-use mathlib.Core.Bool.{true, false, cond}
+use mathlib.Core.Bool.{Bool, true, false, cond}
 use mathlib.Core.List.{List, [], _∷_, _++_}
 use mathlib.Core.Option.{Option, none, some}
 use lib.Dec.{eqb, leb, ltb}
 use Rattle.config.specs.declared.cluster.Config.{Config}
-use Rattle.machine.specs.Parties.{Replica, fresh, Message, Server, Task, idle, Desk}
-use Rattle.machine.specs.Calls.{Answer, unmade, done, Outcome, transferBy, shareBy, serveBy, beginBy, askBy, hearBy, resultBy, dropBy}
-
--- the calls on what server i or desk d holds
-pub record Store : Type 0 where
-  pub transfer : Config → ℕ → Replica → ℕ → ℕ → Outcome Replica
-  pub share : Config → ℕ → Replica → ℕ → ℕ → Outcome Replica
-  pub serve : Config → ℕ → Replica → Message → ℕ → ℕ → Outcome Replica
-  pub begin : Config → Desk → Task → ℕ → Outcome Desk
-  pub ask : Config → ℕ → Desk → ℕ → ℕ → ℕ → Outcome Desk
-  pub hear : Config → ℕ → Desk → Message → Outcome Desk
-  pub result : Desk → Outcome Desk
-  pub drop : Desk → Outcome Desk
-
--- the plain machine
-abbrev pub machine : Store
-machine =
-    record {
-      transfer = transferBy;
-      share = shareBy;
-      serve = serveBy;
-      begin = beginBy;
-      ask = askBy;
-      hear = hearBy;
-      result = resultBy;
-      drop = dropBy;
-    }
-
--- A step and its arguments: desks and servers by number, a message by its place among those sent, the place in a buffer and its length.
-pub data Step : Type 0 where
-  begin : (desk : ℕ) → Task → (note : ℕ) → Step
-  ask : (desk server place size : ℕ) → Step
-  serve : (server message place size : ℕ) → Step
-  hear : (desk message : ℕ) → Step
-  result : (desk : ℕ) → Step
-  drop : (desk : ℕ) → Step
-  transfer : (server taker amount : ℕ) → Step
-  share : (server place size : ℕ) → Step
-  crash : (server : ℕ) → Step
-
--- servers and desks by number, and the messages sent, in their order
-pub record State : Type 0 where
-  pub servers : ℕ → Server
-  pub desks : ℕ → Desk
-  pub sent : List Message
-
--- all servers and desks fresh, and nothing sent
-abbrev pub opened : State
-opened =
-    record {
-      servers = λ i. record { replica = fresh; crashed = false };
-      desks = λ d. record { replica = fresh; round = 0; activity = idle };
-      sent = [];
-    }
+use Rattle.machine.specs.Parties.{Result}
 
 -- f with the value a at i
 abbrev pub put : {A : Type 0} → (ℕ → A) → ℕ → A → ℕ → A
@@ -76,76 +24,132 @@ abbrev pub when : {A B : Type 0} → Option A → B → (A → B) → B
 when none y f = y
 when (some x) y f = f x
 
--- what a step gives
-pub record Made : Type 0 where
+-- ---- calls
+
+-- What a step gives: nothing where no call was made; "late"; a number; or accepted, with what is handed back besides the record: the place after
+-- the message, or the result.
+pub data Answer : Type 0 where
+  unmade : Answer
+  late : Answer
+  refused : ℕ → Answer
+  done : Answer
+  wrote : ℕ → Answer
+  told : Result → Answer
+
+-- what a call comes to: its answer, what the party holds then, and the messages sent
+pub record Outcome (M A : Type 0) : Type 0 where
   pub answer : Answer
-  pub state : State
+  pub party : A
+  pub sent : List M
+
+-- a call of server i or of desk d, from what that party holds; or the crash of server i
+pub data Call (S D M : Type 0) : Type 0 where
+  of-server : (server : ℕ) → (S → Outcome M S) → Call S D M
+  of-desk : (desk : ℕ) → (D → Outcome M D) → Call S D M
+  crashing : (server : ℕ) → Call S D M
+
+-- what a step asks for: a call, or a call with a message, which is given by its place among those sent
+pub data Asked (S D M : Type 0) : Type 0 where
+  call : Call S D M → Asked S D M
+  call-with : (message : ℕ) → (M → Call S D M) → Asked S D M
+
+-- ---- steps
+
+-- what servers and desks hold, by number; which servers have crashed; and the messages sent, in their order
+pub record State (S D M : Type 0) : Type 0 where
+  pub servers : ℕ → S
+  pub crashed : ℕ → Bool
+  pub desks : ℕ → D
+  pub sent : List M
+
+-- what a step gives
+pub record Made (S D M : Type 0) : Type 0 where
+  pub answer : Answer
+  pub state : State S D M
 
 -- no call is made
-abbrev pub nothing : State → Made
+abbrev pub nothing : {S D M : Type 0} → State S D M → Made S D M
 nothing s = record { answer = unmade; state = s }
 
 -- the state after a call of server i
-abbrev pub afterServer : State → ℕ → Outcome Replica → State
-afterServer s i o =
-    record { servers = put (s .servers) i (record { replica = o .party; crashed = false }); desks = s .desks; sent = s .sent ++ o .sent }
+abbrev pub afterServer : {S D M : Type 0} → State S D M → ℕ → Outcome M S → State S D M
+afterServer s i o = record { servers = put (s .servers) i (o .party); crashed = s .crashed; desks = s .desks; sent = s .sent ++ o .sent }
 
 -- a call of server i, unless there is none or it has crashed
-unfoldable pub onServer : Config → State → ℕ → (Replica → Outcome Replica) → Made
-onServer c s i call =
+unfoldable pub onServer : {S D M : Type 0} → Config → State S D M → ℕ → (S → Outcome M S) → Made S D M
+onServer c s i f =
     cond (ltb i (c .n))
-    (cond (s .servers i .crashed) (nothing s)
-    (let o = call (s .servers i .replica) in record { answer = o .answer; state = afterServer s i o }))
+    (cond (s .crashed i) (nothing s) (let o = f (s .servers i) in record { answer = o .answer; state = afterServer s i o }))
     (nothing s)
 
 -- the state after a call of desk d
-abbrev pub afterDesk : State → ℕ → Outcome Desk → State
-afterDesk s d o = record { servers = s .servers; desks = put (s .desks) d (o .party); sent = s .sent ++ o .sent }
+abbrev pub afterDesk : {S D M : Type 0} → State S D M → ℕ → Outcome M D → State S D M
+afterDesk s d o = record { servers = s .servers; crashed = s .crashed; desks = put (s .desks) d (o .party); sent = s .sent ++ o .sent }
 
 -- a call of desk d, unless there is none: desks have the numbers 1 to 65,535
-unfoldable pub onDesk : State → ℕ → (Desk → Outcome Desk) → Made
-onDesk s d call =
+unfoldable pub onDesk : {S D M : Type 0} → State S D M → ℕ → (D → Outcome M D) → Made S D M
+onDesk s d f =
     cond (leb 1 d)
-    (cond (leb d 65535) (let o = call (s .desks d) in record { answer = o .answer; state = afterDesk s d o }) (nothing s))
+    (cond (leb d 65535) (let o = f (s .desks d) in record { answer = o .answer; state = afterDesk s d o }) (nothing s))
     (nothing s)
 
 -- the state after server i crashed
-abbrev pub afterCrash : State → ℕ → State
-afterCrash s i =
-    record { servers = put (s .servers) i (record { replica = s .servers i .replica; crashed = true }); desks = s .desks; sent = s .sent }
+abbrev pub afterCrash : {S D M : Type 0} → State S D M → ℕ → State S D M
+afterCrash s i = record { servers = s .servers; crashed = put (s .crashed) i true; desks = s .desks; sent = s .sent }
 
 -- the mark is set, crashed already or not
-unfoldable pub onCrash : Config → State → ℕ → Made
+unfoldable pub onCrash : {S D M : Type 0} → Config → State S D M → ℕ → Made S D M
 onCrash c s i = cond (ltb i (c .n)) (record { answer = done; state = afterCrash s i }) (nothing s)
 
--- a step: serve and hear take a message already sent
-unfoldable pub take : Store → Config → State → Step → Made
-take p c s (begin d t note) = onDesk s d (λ x. p .begin c x t note)
-take p c s (ask d i place size) = onDesk s d (λ x. p .ask c d x i place size)
-take p c s (serve i k place size) = when (nth (s .sent) k) (nothing s) (λ m. onServer c s i (λ r. p .serve c i r m place size))
-take p c s (hear d k) = when (nth (s .sent) k) (nothing s) (λ m. onDesk s d (λ x. p .hear c d x m))
-take p c s (result d) = onDesk s d (λ x. p .result x)
-take p c s (drop d) = onDesk s d (λ x. p .drop x)
-take p c s (transfer i j amount) = onServer c s i (λ r. p .transfer c i r j amount)
-take p c s (share i place size) = onServer c s i (λ r. p .share c i r place size)
-take p c s (crash i) = onCrash c s i
+abbrev pub perform : {S D M : Type 0} → Config → State S D M → Call S D M → Made S D M
+perform c s (of-server i f) = onServer c s i f
+perform c s (of-desk d f) = onDesk s d f
+perform c s (crashing i) = onCrash c s i
+
+-- a call takes any message already sent
+unfoldable pub take : {S D M : Type 0} → Config → State S D M → Asked S D M → Made S D M
+take c s (call x) = perform c s x
+take c s (call-with k f) = when (nth (s .sent) k) (nothing s) (λ m. perform c s (f m))
 
 -- ---- a run
 
--- a store, and the list of steps that it takes
-pub record Run : Type 0 where
-  pub store : Store
+-- the cluster, what each server and each desk holds at opening, what a step asks for, and the list of steps
+pub record Run (S D M T : Type 0) : Type 0 where
   pub config : Config
-  pub steps : List Step
+  pub server : ℕ → S
+  pub desk : ℕ → D
+  pub asks : T → Asked S D M
+  pub steps : List T
+
+-- all is as it was opened, no server has crashed, and nothing is sent
+abbrev pub opened : {S D M T : Type 0} → Run S D M T → State S D M
+opened r = record { servers = r .server; crashed = λ i. false; desks = r .desk; sent = [] }
+
+-- what a step gives in the state s
+abbrev pub step : {S D M T : Type 0} → Run S D M T → State S D M → T → Made S D M
+step r s x = take (r .config) s (r .asks x)
 
 -- step k, from state s; a place past the end of the list changes nothing
-abbrev pub stepFrom : Run → State → ℕ → Made
-stepFrom r s k = when (nth (r .steps) k) (nothing s) (take (r .store) (r .config) s)
+abbrev pub stepFrom : {S D M T : Type 0} → Run S D M T → State S D M → ℕ → Made S D M
+stepFrom r s k = when (nth (r .steps) k) (nothing s) (step r s)
 
 -- the state after the first k steps, and what step k answers
-unfoldable pub at : Run → ℕ → State
-at r zero = opened
+unfoldable pub at : {S D M T : Type 0} → Run S D M T → ℕ → State S D M
+at r zero = opened r
 at r (suc k) = stepFrom r (at r k) k .state
 
-unfoldable pub answerAt : Run → ℕ → Answer
+unfoldable pub answerAt : {S D M T : Type 0} → Run S D M T → ℕ → Answer
 answerAt r k = stepFrom r (at r k) k .answer
+
+-- f 0, … , f (n − 1), by the places of a list of n elements
+unfoldable pub inTurn : {A B : Type 0} → List A → (ℕ → B) → List B
+inTurn [] f = []
+inTurn (x ∷ l) f = f 0 ∷ inTurn l (λ k. f (suc k))
+
+-- the answers to all steps
+abbrev pub answersOf : {S D M T : Type 0} → Run S D M T → List Answer
+answersOf r = inTurn (r .steps) (answerAt r)
+
+-- desk d after the first k steps
+abbrev pub deskAt : {S D M T : Type 0} → Run S D M T → ℕ → ℕ → D
+deskAt r d k = at r k .desks d

@@ -6,14 +6,10 @@ use mathlib.Core.Option.{Option, none, some}
 use lib.Dec.{eqb}
 use lib.ListN.{length}
 use Rattle.machine.specs.Sets.{Transfers, missing}
-use Rattle.machine.specs.Parties.{Register, by-phase, Activity, idle, running, ended, Result, Desk}
-use Rattle.machine.specs.Calls.{Answer, unmade, late, refused, done, wrote, told}
-use Rattle.machine.specs.Runs.{Step, begin, ask, serve, hear, result, drop, transfer, share, crash, nth, when, Run, at, answerAt}
+use Rattle.machine.specs.Parties.{Register, by-phase, Activity, idle, running, ended, Result}
+use Rattle.machine.specs.Runs.{nth, when, Answer, unmade, late, refused, done, wrote, told, step, at, answerAt, deskAt}
+use Rattle.machine.specs.Steps.{Step, begin, ask, serve, hear, result, drop, transfer, share, crash, PlainRun}
 use Rattle.machine.specs.Views.{View}
-
--- desk d after the first k steps
-abbrev pub deskAt : Run → ℕ → ℕ → Desk
-deskAt r d k = at r k .desks d
 
 -- the result that an answer tells
 abbrev pub resultIn : Answer → Option Result
@@ -54,28 +50,28 @@ heardBy d l (share i place size) = none
 heardBy d l (crash i) = none
 
 -- the transfers that step k brings to desk d: those of the reply, where step k is a hear of d, neither refused nor late
-unfoldable pub brings : Run → ℕ → ℕ → Transfers
+unfoldable pub brings : PlainRun → ℕ → ℕ → Transfers
 brings r d k =
     when (nth (r .steps) k) []
     (λ s. cond (accepted (answerAt r k)) (when (heardBy d (at r k .sent) s) [] (λ m. m .replica .set)) [])
 
 -- what the hears of desk d among the first k steps brought, in whatever operation
-unfoldable pub brought : Run → ℕ → ℕ → Transfers
+unfoldable pub brought : PlainRun → ℕ → ℕ → Transfers
 brought r d zero = []
 brought r d (suc k) = brought r d k ++ brings r d k
 
 -- the transfers that step k is the first to bring
-abbrev pub firstBrought : Run → ℕ → ℕ → Transfers
+abbrev pub firstBrought : PlainRun → ℕ → ℕ → Transfers
 firstBrought r d k = missing (brought r d k) (brings r d k)
 
 -- ---- the whole
 
-abbrev pub viewOf : Run → View
+abbrev pub viewOf : PlainRun → View
 viewOf r =
     record {
       steps = r .steps;
       answers = answerAt r;
-      gives = λ d k. resultIn (r .store .result (deskAt r d k) .answer);
+      gives = λ d k. resultIn (step r (at r k) (result d) .answer);
       chosen = λ d k. chosenIn (deskAt r d k .activity);
       brings = λ d k. length (firstBrought r d k);
       holds = λ d k. length (deskAt r d k .replica .set);

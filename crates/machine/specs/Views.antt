@@ -10,8 +10,8 @@ use lib.Dec.{ltb}
 use Rattle.quorums.specs.Sum.{sum}
 use Rattle.format.specs.Bytes.{stands}
 use Rattle.machine.specs.Parties.{Register, below, Task, read, write, writes, Result}
-use Rattle.machine.specs.Calls.{Answer, done, told}
-use Rattle.machine.specs.Runs.{Step, begin, hear, result, nth}
+use Rattle.machine.specs.Runs.{nth, Answer, done, told}
+use Rattle.machine.specs.Steps.{Step, begin, hear, result}
 
 pub record View : Type 0 where
   pub steps : List Step

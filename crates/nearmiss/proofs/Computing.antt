@@ -1,5 +1,4 @@
--- Runs by computation: `computing` opens all that a run computes through, and what `Ends`, `Chose` and `Current` say of every place of a list
--- is brought down to tests that compute.
+-- Runs by computation: what `Ends`, `Chose` and `Current` say of every place of a list is brought down to tests that compute.
 use Prim.Native.Nat.{ℕ, zero, suc, _<_}
 use native.Mathlib.Omega.{arith}
 use mathlib.Core.Path.{_≡_, refl, sym, ap, _∙_}
@@ -9,27 +8,13 @@ use mathlib.Core.Option.{none, some, Option·none-ne-some}
 use borrow.Author.Tests.{ltb-true, lt-ltb, eq-eqb}
 use lib.Dec.{eqb, ltb}
 use lib.ListN.{length}
-use Rattle.quorums.specs.Sum.{sum, sumℤ, sumIn, size, all}
-use Rattle.quorums.specs.Difference.{difference}
-use Rattle.quorums.specs.Accounts.{weight, total, weightIn, margin, quorum, above}
+use Rattle.quorums.specs.Sum.{all}
 use Rattle.quorums.proofs.Sums.{all-each}
-use Rattle.config.specs.Cluster.{validOf, startOf, totalOf, aboveOf, stampBytes, mostStamp}
-use Rattle.format.specs.Bytes.{bytes, number, series, stands, marks, bit}
-use Rattle.format.specs.Table.{registerMark, register, cellMap, cells, rowMark, row, rowMap, rows, sheet, fieldMap, fieldMapOf, head, note, encodeFields}
-use Rattle.machine.specs.Sets.{same, has, includes, missing, union, tally, count, cell, given, received, weightOf, quorumOf}
-use Rattle.machine.specs.Parties.{below, higher, join, bytesOf, answered, Register, Task, Result}
-use Rattle.machine.specs.Calls.{done, send, transferBy, shareBy, serveBy, answerRequest, beginBy, askBy, hearBy, restart, choose, mark, resultBy, dropBy}
-use Rattle.machine.specs.Runs.{Step, begin, ask, serve, hear, result, drop, transfer, share, crash, nth, when, onServer, onDesk, onCrash, take, Run, at, answerAt}
-use Rattle.machine.specs.Views.{Current, Ends, Chose, restartsMade, gain}
-use Rattle.machine.specs.Seen.{brings, brought, viewOf}
-
--- all that a run computes through
-unfoldable pub computing : Unit {0}
-unfolding answerAt at take onServer onDesk onCrash send transferBy shareBy serveBy answerRequest beginBy askBy hearBy restart choose mark resultBy
-    dropBy join higher below union missing includes has same tally count cell given received weightOf quorumOf answered bytesOf quorum margin weightIn
-    weight total validOf startOf totalOf aboveOf above stampBytes mostStamp sumℤ sum sumIn size all difference encodeFields bytes number series stands marks
-    bit registerMark register cellMap cells rowMark row rowMap rows sheet fieldMap fieldMapOf head note brings brought restartsMade gain
-computing = tt
+use Rattle.machine.specs.Parties.{Register, Task, Result}
+use Rattle.machine.specs.Runs.{done, nth, when, answerAt}
+use Rattle.machine.specs.Steps.{Step, begin, ask, serve, hear, result, drop, transfer, share, crash, PlainRun}
+use Rattle.machine.specs.Seen.{viewOf}
+use Rattle.machine.specs.Views.{Current, Ends, Chose}
 
 -- ---- the last operation that a desk began
 
@@ -49,7 +34,7 @@ begunBy d (crash i) = false
 abbrev pub quiet : List Step → ℕ → ℕ → ℕ → Bool
 quiet l d i k = all k (λ p. cond (ltb i p) (when (nth l p) true (λ s. not (begunBy d s))) true)
 
-current-of : (r : Run) (d i : ℕ) (t : Task) (k noted : ℕ)
+current-of : (r : PlainRun) (d i : ℕ) (t : Task) (k noted : ℕ)
     → nth (r .steps) i ≡ some (begin d t noted) → answerAt r i ≡ done → ltb i k ≡ true → quiet (r .steps) d i k ≡ true → Current (viewOf r) d i t k
 current-of r d i t k noted s a l q =
     record {
@@ -69,20 +54,20 @@ current-of r d i t k noted s a l q =
 -- ---- the end of an operation, and the register that it chose
 
 -- desk d begins t at place i, with a note, and nothing after it before place k, where it hears a message, has no result before and x after
-pub ends-of : (r : Run) (d i : ℕ) (t : Task) (k : ℕ) (x : Result) (noted message : ℕ)
+pub ends-of : (r : PlainRun) (d i : ℕ) (t : Task) (k : ℕ) (x : Result) (noted message : ℕ)
     → nth (r .steps) i ≡ some (begin d t noted) → answerAt r i ≡ done → ltb i k ≡ true → quiet (r .steps) d i k ≡ true
     → nth (r .steps) k ≡ some (hear d message) → viewOf r .gives d k ≡ none → viewOf r .gives d (suc k) ≡ some x → Ends (viewOf r) d i t k x
 ends-of r d i t k x noted message s a l q h n g =
     record { current = current-of r d i t k noted s a l q; message = message; step = h; before = n; after = g }
 
 -- desk d begins t at place i, with a note, and nothing after it before place k, where it is in phase 2 with g
-pub chose-of : (r : Run) (d i : ℕ) (t : Task) (k : ℕ) (g : Register) (noted : ℕ)
+pub chose-of : (r : PlainRun) (d i : ℕ) (t : Task) (k : ℕ) (g : Register) (noted : ℕ)
     → nth (r .steps) i ≡ some (begin d t noted) → answerAt r i ≡ done → ltb i k ≡ true → quiet (r .steps) d i k ≡ true
     → viewOf r .chosen d k ≡ some g → Chose (viewOf r) d i t g
 chose-of r d i t k g noted s a l q e = record { place = k; current = current-of r d i t k noted s a l q; phase-two = e }
 
 -- whether no hear of desk d leaves it with a result
-abbrev pub neverTells : Run → ℕ → Bool
+abbrev pub neverTells : PlainRun → ℕ → Bool
 neverTells r d = all (length (r .steps)) (λ k. when (viewOf r .gives d (suc k)) true (λ x. false))
 
 nth-within : (l : List Step) (k : ℕ) (s : Step) → nth l k ≡ some s → k < length l
@@ -90,7 +75,7 @@ nth-within [] k s e = absurd (Option·none-ne-some s e)
 nth-within (x ∷ l) zero s e = omega arith
 nth-within (x ∷ l) (suc k) s e = omega (arith, nth-within l k s e)
 
-pub never-ends : (r : Run) (d : ℕ) → neverTells r d ≡ true → (i : ℕ) (t : Task) (k : ℕ) (x : Result) → Ends (viewOf r) d i t k x → ⊥
+pub never-ends : (r : PlainRun) (d : ℕ) → neverTells r d ≡ true → (i : ℕ) (t : Task) (k : ℕ) (x : Result) → Ends (viewOf r) d i t k x → ⊥
 never-ends r d n i t k x e =
     let z = all-each (length (r .steps)) (λ k. when (viewOf r .gives d (suc k)) true (λ x. false)) n k (nth-within (r .steps) k _ (e .step)) in
     absurd (false≢true (sym (ap (λ o. when o true (λ x. false)) (e .after)) ∙ z))

@@ -3,14 +3,15 @@
 use mathlib.Core.Path.{_≡_, refl}
 use mathlib.Core.List.{List, [], _∷_, _++_}
 use Rattle.machine.specs.Parties.{start, read, write}
-use Rattle.machine.specs.Calls.{refused}
-use Rattle.machine.specs.Runs.{Step, begin, ask, serve, hear, result, machine, Run, answerAt}
-use Rattle.machine.specs.Views.{Ends, Chose, Order}
+use Rattle.machine.specs.Runs.{refused, answerAt}
+use Rattle.machine.specs.Steps.{Step, begin, ask, serve, hear, result, machine, PlainRun}
 use Rattle.machine.specs.Seen.{viewOf}
+use Rattle.machine.specs.Views.{Ends, Chose, Order}
+use Rattle.machine.proofs.Computing.{computing}
 use Rattle.nearmiss.specs.Steps.{runBy, room, trip, sale, sold, returned, written}
 use Rattle.nearmiss.specs.Parts.{hearWith, markWith}
 use Rattle.nearmiss.specs.CountedTwice.{weightHeard, enoughReplies, countedTwice}
-use Rattle.nearmiss.proofs.Computing.{computing, ends-of, chose-of}
+use Rattle.nearmiss.proofs.Computing.{ends-of, chose-of}
 use Rattle.nearmiss.proofs.Refuting.{lower-tag}
 
 -- n = 3, f = 1. Desk 1 writes (places 0 to 8), asks for its result (9), and desk 2 reads (10 to 22).
@@ -24,7 +25,7 @@ steps =
     ++ trip 2 1 8
     ++ trip 2 2 10
 
-abbrev pub theirs : Run
+abbrev pub theirs : PlainRun
 theirs = runBy countedTwice 3 1 steps
 
 pub sale-ends : Ends (viewOf theirs) 1 0 (write sale) 8 (written sold 0)

@@ -6,14 +6,15 @@ use mathlib.Core.Path.{_≡_, refl}
 use mathlib.Core.Logic.{⊎-elim}
 use mathlib.Core.List.{List, [], _∷_, _++_}
 use Rattle.machine.specs.Parties.{Register, read, write}
-use Rattle.machine.specs.Calls.{told}
-use Rattle.machine.specs.Runs.{Step, begin, result, machine, Run, answerAt}
-use Rattle.machine.specs.Views.{Ends, Chose, Order, OneWrite, Values}
+use Rattle.machine.specs.Runs.{told, answerAt}
+use Rattle.machine.specs.Steps.{Step, begin, result, machine, PlainRun}
 use Rattle.machine.specs.Seen.{viewOf}
+use Rattle.machine.specs.Views.{Ends, Chose, Order, OneWrite, Values}
+use Rattle.machine.proofs.Computing.{computing}
 use Rattle.nearmiss.specs.Steps.{runBy, trip, sale, sold, returned, written}
 use Rattle.nearmiss.specs.Parts.{hearWith, markWith}
 use Rattle.nearmiss.specs.FixedTag.{chooseFixed, fixedTag}
-use Rattle.nearmiss.proofs.Computing.{computing, ends-of, chose-of}
+use Rattle.nearmiss.proofs.Computing.{ends-of, chose-of}
 use Rattle.nearmiss.proofs.Refuting.{not-higher}
 
 -- all sixteen seats
@@ -33,7 +34,7 @@ steps =
     ++ trip 3 1 22
     ++ (result 3 ∷ [])
 
-abbrev pub theirs : Run
+abbrev pub theirs : PlainRun
 theirs = runBy fixedTag 3 1 steps
 
 -- what desk 2 writes, with the tag of desk 1's sale

@@ -2,15 +2,16 @@
 use native.Mathlib.Omega.{arith}
 use mathlib.Core.Path.{_≡_, refl}
 use Rattle.machine.specs.Parties.{write}
-use Rattle.machine.specs.Runs.{Run}
-use Rattle.machine.specs.Views.{Ends, restartsMade, Restarts}
+use Rattle.machine.specs.Steps.{PlainRun}
 use Rattle.machine.specs.Seen.{viewOf}
+use Rattle.machine.specs.Views.{Ends, restartsMade, Restarts}
+use Rattle.machine.proofs.Computing.{computing}
 use Rattle.nearmiss.specs.Steps.{runBy, sale, sold, written}
 use Rattle.nearmiss.specs.NoRestarts.{resultWithout, noRestarts}
-use Rattle.nearmiss.proofs.Computing.{computing, ends-of}
+use Rattle.nearmiss.proofs.Computing.{ends-of}
 use Rattle.nearmiss.proofs.Shown.{twoRestarts}
 
-abbrev pub theirs : Run
+abbrev pub theirs : PlainRun
 theirs = runBy noRestarts 3 1 (twoRestarts .steps)
 
 pub write-ends : Ends (viewOf theirs) 1 2 (write sale) 21 (written sold 0)

@@ -11,15 +11,16 @@ use Rattle.config.specs.Cluster.{configOf, validOf}
 use Rattle.format.specs.Bytes.{bit}
 use Rattle.machine.specs.Sets.{quorumOf}
 use Rattle.machine.specs.Parties.{start, reply, Message, read, write, second, running, Result}
-use Rattle.machine.specs.Calls.{Answer, late, refused, done, wrote, told}
-use Rattle.machine.specs.Runs.{Step, begin, ask, serve, hear, result, machine, Run, answerAt}
+use Rattle.machine.specs.Runs.{Answer, late, refused, done, wrote, told, answerAt, deskAt}
+use Rattle.machine.specs.Steps.{Step, begin, ask, serve, hear, result, machine, PlainRun}
+use Rattle.machine.specs.Seen.{viewOf}
 use Rattle.machine.specs.Views.{Ends, Chose, Order}
-use Rattle.machine.specs.Seen.{deskAt, viewOf}
 use Rattle.machine.proofs.Order.{order}
+use Rattle.machine.proofs.Computing.{computing}
 use Rattle.nearmiss.specs.Steps.{runBy, room, trip, passOn, readAfter, sale, sold, returned, written, answersFrom, answers}
 use Rattle.nearmiss.specs.Parts.{hearWith}
 use Rattle.nearmiss.specs.OtherSheet.{countOther, otherSheet}
-use Rattle.nearmiss.proofs.Computing.{computing, ends-of, chose-of, never-ends}
+use Rattle.nearmiss.proofs.Computing.{ends-of, chose-of, never-ends}
 use Rattle.nearmiss.proofs.Refuting.{lower-tag}
 
 -- desk 1 asks servers 0, 1 and 3, each replies, and it hears the three replies; m messages were sent before
@@ -35,10 +36,10 @@ round m =
 abbrev pub steps : List Step
 steps = (begin 1 (write sale) 0 ∷ []) ++ round 0 ++ passOn 6 ++ round 8 ++ (result 1 ∷ []) ++ readAfter 2 14
 
-abbrev pub theirs : Run
+abbrev pub theirs : PlainRun
 theirs = runBy otherSheet 5 1 steps
 
-abbrev pub ours : Run
+abbrev pub ours : PlainRun
 ours = runBy machine 5 1 steps
 
 -- seats sold in a block
@@ -137,7 +138,7 @@ ours-ordered = order (configOf 5 1) refl steps
 
 -- ---- and on: desk 1 goes on with its sale through 2 and 4 (places 43 to 52), and desk 3 reads through 2 and 4 (53 to 69)
 
-abbrev pub oursLater : Run
+abbrev pub oursLater : PlainRun
 oursLater = runBy machine 5 1 (steps ++ trip 1 2 24 ++ trip 1 2 26 ++ trip 1 4 28 ++ (result 1 ∷ []) ++ readAfter 3 30)
 
 pub record Later : Type 0 where

@@ -8,13 +8,14 @@ use lib.ListN.{replicate}
 use Rattle.config.specs.Cluster.{configOf}
 use Rattle.machine.specs.Sets.{Transfer, Transfers, tally, count}
 use Rattle.machine.specs.Parties.{start, fresh, Replica, reply, Message, Task, read, write, Phase, first, second, running, idle, Desk}
-use Rattle.machine.specs.Calls.{late, refused, done, wrote, unmade, refuse, transferBy, beginBy, hearBy, mostCount, mostRound}
-use Rattle.machine.specs.Runs.{begin, ask, serve, hear, result, drop, transfer, share, crash, machine, Run, answerAt}
+use Rattle.machine.specs.Runs.{late, refused, done, wrote, unmade, answerAt}
+use Rattle.machine.specs.Calls.{refuse, transferBy, beginBy, hearBy, mostCount, mostRound}
+use Rattle.machine.specs.Steps.{begin, ask, serve, hear, result, drop, transfer, share, crash, machine, PlainRun}
+use Rattle.machine.proofs.Computing.{computing}
 use Rattle.nearmiss.specs.Steps.{runBy, room, sale}
-use Rattle.nearmiss.proofs.Computing.{computing}
 
 -- n = 3, f = 1: a transfer may leave 751. A request without sheet and register has 10 bytes.
-abbrev pub tried : Run
+abbrev pub tried : PlainRun
 tried =
     runBy machine 3 1
     (result 1 ∷ drop 1 ∷ ask 1 0 0 room ∷ begin 1 (write (replicate 65 0)) 0 ∷ begin 1 (write (replicate 64 0)) 0 ∷ begin 1 read 0 ∷ ask 1 3 0 room

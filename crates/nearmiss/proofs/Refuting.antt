@@ -7,8 +7,8 @@ use borrow.Author.Tests.{ltb-true, eqb-false}
 use lib.Dec.{eqb, ltb}
 use Rattle.config.specs.Cluster.{configOf, validOf}
 use Rattle.machine.specs.Parties.{Register, below, Task, write, Result}
-use Rattle.machine.specs.Calls.{Answer, unmade, late, refused, done, wrote, told}
-use Rattle.machine.specs.Runs.{Step, Store, machine, answerAt}
+use Rattle.machine.specs.Runs.{Answer, unmade, late, refused, done, wrote, told, answerAt}
+use Rattle.machine.specs.Steps.{Step, Store, machine}
 use Rattle.machine.specs.Views.{View, Ends, Chose, Order}
 use Rattle.nearmiss.specs.Steps.{runBy, SameAnswers}
 

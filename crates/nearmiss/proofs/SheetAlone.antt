@@ -3,13 +3,14 @@
 use mathlib.Core.Path.{_≡_, refl}
 use mathlib.Core.List.{List, [], _∷_, _++_}
 use Rattle.machine.specs.Parties.{start, read, write}
-use Rattle.machine.specs.Calls.{told}
-use Rattle.machine.specs.Runs.{Step, begin, machine, Run, answerAt}
-use Rattle.machine.specs.Views.{Ends, Chose, Order}
+use Rattle.machine.specs.Runs.{told, answerAt}
+use Rattle.machine.specs.Steps.{Step, begin, machine, PlainRun}
 use Rattle.machine.specs.Seen.{viewOf}
+use Rattle.machine.specs.Views.{Ends, Chose, Order}
+use Rattle.machine.proofs.Computing.{computing}
 use Rattle.nearmiss.specs.Steps.{runBy, trip, passOn, readAfter, sale, sold, returned, written}
 use Rattle.nearmiss.specs.SheetAlone.{serveSheet, sheetAlone}
-use Rattle.nearmiss.proofs.Computing.{computing, ends-of, chose-of}
+use Rattle.nearmiss.proofs.Computing.{ends-of, chose-of}
 use Rattle.nearmiss.proofs.Refuting.{lower-tag}
 
 -- n = 5, f = 1. Desk 1 writes (places 0 to 18), weight moves (19 to 24), desk 2 reads (25 to 41).
@@ -17,7 +18,7 @@ abbrev pub steps : List Step
 steps =
     (begin 1 (write sale) 0 ∷ []) ++ trip 1 0 0 ++ trip 1 1 2 ++ trip 1 3 4 ++ trip 1 0 6 ++ trip 1 1 8 ++ trip 1 3 10 ++ passOn 12 ++ readAfter 2 14
 
-abbrev pub theirs : Run
+abbrev pub theirs : PlainRun
 theirs = runBy sheetAlone 5 1 steps
 
 pub sale-ends : Ends (viewOf theirs) 1 0 (write sale) 18 (written sold 0)

@@ -8,18 +8,19 @@ use lib.IntN.{pos}
 use Rattle.config.specs.Cluster.{configOf}
 use Rattle.machine.specs.Sets.{weightOf, quorumOf}
 use Rattle.machine.specs.Parties.{start, read, write, first, second, running, Result}
-use Rattle.machine.specs.Calls.{done, told}
-use Rattle.machine.specs.Runs.{begin, ask, serve, result, drop, transfer, share, machine, Run, answerAt}
+use Rattle.machine.specs.Runs.{done, told, answerAt, deskAt}
+use Rattle.machine.specs.Steps.{begin, ask, serve, result, drop, transfer, share, machine, PlainRun}
+use Rattle.machine.specs.Seen.{viewOf}
 use Rattle.machine.specs.Views.{Ends, Chose, restartsMade, gain}
-use Rattle.machine.specs.Seen.{deskAt, viewOf}
+use Rattle.machine.proofs.Computing.{computing}
 use Rattle.nearmiss.specs.Steps.{runBy, room, trip, sale, sold, returned, written}
-use Rattle.nearmiss.proofs.Computing.{computing, ends-of, chose-of, never-ends}
+use Rattle.nearmiss.proofs.Computing.{ends-of, chose-of, never-ends}
 
 -- ---- a read returns what was written before it, across a transfer of weight
 
 -- n = 4, f = 1. Desk 1 writes through 0, 1 and 2 (places 0 to 18). Server 0 gives 333 to 3 and tells it (19 to 21). Desk 2 reads through 3 and 1
 -- (22 to 37).
-abbrev pub across : Run
+abbrev pub across : PlainRun
 across =
     runBy machine 4 1
     ((begin 1 (write sale) 0 ∷ []) ++ trip 1 0 0 ++ trip 1 1 2 ++ trip 1 2 4 ++ trip 1 0 6 ++ trip 1 1 8 ++ trip 1 2 10
@@ -63,7 +64,7 @@ read-across =
 
 -- n = 3, f = 1. Desk 1's write chooses through 0 and 1 (places 0 to 6), reaches server 0 and is dropped (7 to 9). Desk 2 reads through 0 and 2
 -- (10 to 22).
-abbrev pub droppedWrite : Run
+abbrev pub droppedWrite : PlainRun
 droppedWrite =
     runBy machine 3 1
     ((begin 1 (write sale) 0 ∷ []) ++ trip 1 0 0 ++ trip 1 1 2 ++ (ask 1 0 0 room ∷ serve 0 4 0 room ∷ drop 1 ∷ begin 2 read 0 ∷ []) ++ trip 2 0 6
@@ -94,7 +95,7 @@ read-dropped =
 
 -- n = 3, f = 1. Server 0 gives 2 some weight twice. Desk 1's write (from place 2) finds that at its first reply (5), chooses through 0 and 1 (11);
 -- then 1 gives 2 some weight, which the next reply brings (15), and it ends through 1 and 0 (21).
-abbrev pub twoRestarts : Run
+abbrev pub twoRestarts : PlainRun
 twoRestarts =
     runBy machine 3 1
     ((transfer 0 2 100 ∷ transfer 0 2 100 ∷ begin 1 (write sale) 0 ∷ []) ++ trip 1 0 0 ++ trip 1 0 2 ++ trip 1 1 4 ++ (transfer 1 2 100 ∷ []) ++ trip 1 1 6
@@ -127,7 +128,7 @@ write-restarted =
 -- ---- the start read back
 
 -- n = 3, f = 1. Desk 1 reads through 0 and 1, and nothing was written.
-abbrev pub unwritten : Run
+abbrev pub unwritten : PlainRun
 unwritten = runBy machine 3 1 ((begin 1 read 0 ∷ []) ++ trip 1 0 0 ++ trip 1 1 2 ++ trip 1 0 4 ++ trip 1 1 6 ++ (result 1 ∷ []))
 
 pub record Unwritten : Type 0 where

@@ -9,9 +9,10 @@ use mathlib.Core.Option.{some}
 use borrow.Author.Tests.{lt-leb, le-leb}
 use Rattle.config.specs.Cluster.{configOf, validOf}
 use Rattle.config.specs.declared.cluster.Config.{Config}
-use Rattle.machine.specs.Parties.{fresh, Task, read, first, running, idle, Desk}
-use Rattle.machine.specs.Calls.{refused, done, Outcome, accept, beginBy, dropBy, mostRound}
-use Rattle.machine.specs.Runs.{Step, begin, drop, State, nth, onDesk, take, opened, machine}
+use Rattle.machine.specs.Parties.{fresh, Message, Task, read, first, running, idle, Desk}
+use Rattle.machine.specs.Runs.{refused, done, Outcome, nth, onDesk, take, step}
+use Rattle.machine.specs.Calls.{accept, beginBy, dropBy, mostRound}
+use Rattle.machine.specs.Steps.{Step, begin, drop, machine, PlainState, PlainRun, runOf}
 use Rattle.nearmiss.specs.Steps.{runBy, answersFrom}
 use Rattle.nearmiss.specs.Parts.{withBegin}
 use Rattle.nearmiss.specs.SpentEarly.{beginUntil, spentEarly}
@@ -39,16 +40,19 @@ abbrev cluster : Config
 cluster = configOf 3 1
 
 -- of any begin that goes on up to a round
-module _ (call : Config → Desk → Task → ℕ → Outcome Desk) (c : Config) (last : ℕ)
+module _ (call : Config → Desk → Task → ℕ → Outcome Message Desk) (c : Config) (last : ℕ)
     (goes : (m : ℕ) → m < last → call c (idle-in m) read 0 ≡ accept done (begun-in (suc m))) where
-  reaches : (k m : ℕ) (s : State) → s .desks 1 ≡ idle-in m → m + k ≡ last
-      → nth (answersFrom (withBegin call) c s (begins k)) (double k) ≡ some (call c (idle-in last) read 0 .answer)
+  abbrev r : PlainRun
+  r = runOf (withBegin call) c (begins last)
+
+  reaches : (k m : ℕ) (s : PlainState) → s .desks 1 ≡ idle-in m → m + k ≡ last
+      → nth (answersFrom r s (begins k)) (double k) ≡ some (call c (idle-in last) read 0 .answer)
   unfolding answersFrom begins double take onDesk dropBy
   reaches zero m s e l =
       let there : m ≡ last = omega arith in
       rw (e, there)
   reaches (suc k) m s e l =
-      let then = take (withBegin call) c (take (withBegin call) c s (begin 1 read 0) .state) (drop 1) .state in
+      let then = step r (step r s (begin 1 read 0) .state) (drop 1) .state in
       let next : then .desks 1 ≡ idle-in (suc m) = rw (e, goes m (omega arith)) in
       reaches k (suc m) then next (omega arith)
 
@@ -70,9 +74,9 @@ unfolding validOf
 spent-early last l =
     unequal
     (answers-at (runBy (spentEarly last) 3 1 (begins last)) (double last) (refused 12)
-    (reaches (beginUntil last) cluster last (λ m h. until-goes cluster last m l h) last 0 opened refl (omega arith) ∙ ap some (until-spent cluster last l)))
+    (reaches (beginUntil last) cluster last (λ m h. until-goes cluster last m l h) last 0 _ refl (omega arith) ∙ ap some (until-spent cluster last l)))
     (answers-at (runBy machine 3 1 (begins last)) (double last) done
-    (reaches beginBy cluster last (λ m h. machine-goes cluster m (omega arith)) last 0 opened refl (omega arith)
-    ∙ ap some (ap (λ (o : Outcome Desk). o .answer) (machine-goes cluster last l))))
+    (reaches beginBy cluster last (λ m h. machine-goes cluster m (omega arith)) last 0 _ refl (omega arith)
+    ∙ ap some (ap (λ (o : Outcome Message Desk). o .answer) (machine-goes cluster last l))))
     refl
     refl

@@ -2,8 +2,9 @@
 use mathlib.Core.Path.{refl}
 use mathlib.Core.List.{List, [], _∷_, _++_}
 use Rattle.machine.specs.Parties.{start}
-use Rattle.machine.specs.Calls.{late, refused, done, wrote, told}
-use Rattle.machine.specs.Runs.{Step, serve, transfer, share}
+use Rattle.machine.specs.Runs.{late, refused, done, wrote, told}
+use Rattle.machine.specs.Steps.{Step, serve, transfer, share}
+use Rattle.machine.proofs.Computing.{computing}
 use Rattle.nearmiss.specs.Steps.{room, passOn, readAfter, returned}
 use Rattle.nearmiss.specs.Parts.{hearWith, markWith}
 use Rattle.nearmiss.specs.RegisterAlone.{serveRegister, registerAlone}
@@ -12,7 +13,6 @@ use Rattle.nearmiss.specs.NeverEnds.{goOn, neverEnds}
 use Rattle.nearmiss.specs.RefusesAll.{refusesAll}
 use Rattle.nearmiss.specs.AllLate.{allLate}
 use Rattle.nearmiss.specs.HeadCount.{enoughHeads, headCount}
-use Rattle.nearmiss.proofs.Computing.{computing}
 use Rattle.nearmiss.proofs.Shown.{unwritten}
 use Rattle.nearmiss.proofs.Refuting.{Unequal, unequal}
 

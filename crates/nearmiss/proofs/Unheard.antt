@@ -7,12 +7,12 @@ use borrow.Author.Tests.{ltb-true}
 use lib.IntN.{pos}
 use Rattle.config.specs.Cluster.{configOf}
 use Rattle.machine.specs.Sets.{Transfer, weightOf}
-use Rattle.machine.specs.Calls.{refused, done}
-use Rattle.machine.specs.Runs.{Step, transfer, machine, Run, at, answerAt}
+use Rattle.machine.specs.Runs.{refused, done, at, answerAt}
+use Rattle.machine.specs.Steps.{Step, transfer, machine, PlainRun}
 use Rattle.machine.specs.Clauses.{by-server, Sheets}
+use Rattle.machine.proofs.Computing.{computing}
 use Rattle.nearmiss.specs.Steps.{runBy}
 use Rattle.nearmiss.specs.Unheard.{giftsTo, transferUnheard, unheard}
-use Rattle.nearmiss.proofs.Computing.{computing}
 
 -- n = 5, f = 1
 abbrev pub steps : List Step
@@ -22,13 +22,13 @@ steps = transfer 0 1 374 ∷ transfer 1 2 748 ∷ []
 abbrev pub gift : Transfer
 gift = record { giver = 0; number = 1; taker = 1; amount = 374 }
 
-abbrev pub theirs : Run
+abbrev pub theirs : PlainRun
 theirs = runBy (unheard (gift ∷ [])) 5 1 steps
 
 pub record PassedOn : Type 0 where
-  pub gift-made : at theirs 1 .servers 0 .replica .set ≡ gift ∷ []
+  pub gift-made : at theirs 1 .servers 0 .set ≡ gift ∷ []
   pub accepted : answerAt theirs 1 ≡ done
-  pub weight-left : weightOf (configOf 5 1) (at theirs 2 .servers 1 .replica .set) 1 ≡ pos 252
+  pub weight-left : weightOf (configOf 5 1) (at theirs 2 .servers 1 .set) 1 ≡ pos 252
   -- on the plain machine that is 10
   pub ours : answerAt (runBy machine 5 1 steps) 1 ≡ refused 10
 
@@ -38,4 +38,4 @@ passed-on = record { gift-made = refl; accepted = refl; weight-left = refl; ours
 
 pub unheard-light : Sheets theirs → ⊥
 unfolding computing giftsTo transferUnheard
-unheard-light sheets = false≢true (sheets 2 (at theirs 2 .servers 1 .replica .set) (by-server 1 refl) .floor 1 (ltb-true 1 5 refl))
+unheard-light sheets = false≢true (sheets 2 (at theirs 2 .servers 1 .set) (by-server 1 refl) .floor 1 (ltb-true 1 5 refl))

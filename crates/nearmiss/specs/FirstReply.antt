@@ -1,7 +1,8 @@
 -- A store whose desk ends an operation at its first reply, in whatever phase and on whatever sheet, and idles after.
 use Rattle.machine.specs.Parties.{join, by-phase}
-use Rattle.machine.specs.Calls.{done, accept, chosen, finished}
-use Rattle.machine.specs.Runs.{Store}
+use Rattle.machine.specs.Runs.{done}
+use Rattle.machine.specs.Calls.{accept, chosen, finished}
+use Rattle.machine.specs.Steps.{Store}
 use Rattle.nearmiss.specs.Parts.{withHear, OnReply, hearWith}
 
 unfoldable pub endAtOnce : OnReply

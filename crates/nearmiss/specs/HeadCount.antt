@@ -8,7 +8,7 @@ use Rattle.config.specs.declared.cluster.Config.{Config}
 use Rattle.machine.specs.Sets.{Transfers}
 use Rattle.machine.specs.Parties.{Message, answered}
 use Rattle.machine.specs.Calls.{restart, choose, finished}
-use Rattle.machine.specs.Runs.{Store}
+use Rattle.machine.specs.Steps.{Store}
 use Rattle.nearmiss.specs.Parts.{withHear, hearWith, markWith}
 
 unfoldable pub enoughHeads : Config → Transfers → List Message → Bool

@@ -2,7 +2,7 @@
 -- on the desk's own sheet, and is not joined. In phase 1 such a reply restarts, as it should.
 use Rattle.machine.specs.Parties.{Replica, Message, by-phase}
 use Rattle.machine.specs.Calls.{restart, mark}
-use Rattle.machine.specs.Runs.{Store}
+use Rattle.machine.specs.Steps.{Store}
 use Rattle.nearmiss.specs.Parts.{withHear, OnReply, hearWith}
 
 -- the reply m as if it were made on the replica p

@@ -6,12 +6,13 @@ use lib.Dec.{eqb}
 use Rattle.config.specs.declared.cluster.Config.{Config}
 use Rattle.machine.specs.Sets.{Transfers, quorumOf}
 use Rattle.machine.specs.Parties.{Register, Replica, join, Message, by-kind, answered, Task, by-phase, Operation, if-running, Desk}
-use Rattle.machine.specs.Calls.{late, done, Outcome, accept, refuse, knows, marked}
-use Rattle.machine.specs.Runs.{Store, machine}
+use Rattle.machine.specs.Runs.{late, done, Outcome}
+use Rattle.machine.specs.Calls.{accept, refuse, knows, marked}
+use Rattle.machine.specs.Steps.{Store, machine}
 
 -- ---- one call exchanged
 
-abbrev pub withTransfer : (Config → ℕ → Replica → ℕ → ℕ → Outcome Replica) → Store
+abbrev pub withTransfer : (Config → ℕ → Replica → ℕ → ℕ → Outcome Message Replica) → Store
 withTransfer f =
     record {
       transfer = f;
@@ -24,7 +25,7 @@ withTransfer f =
       drop = machine .drop;
     }
 
-abbrev pub withServe : (Config → ℕ → Replica → Message → ℕ → ℕ → Outcome Replica) → Store
+abbrev pub withServe : (Config → ℕ → Replica → Message → ℕ → ℕ → Outcome Message Replica) → Store
 withServe f =
     record {
       transfer = machine .transfer;
@@ -37,7 +38,7 @@ withServe f =
       drop = machine .drop;
     }
 
-abbrev pub withBegin : (Config → Desk → Task → ℕ → Outcome Desk) → Store
+abbrev pub withBegin : (Config → Desk → Task → ℕ → Outcome Message Desk) → Store
 withBegin f =
     record {
       transfer = machine .transfer;
@@ -50,7 +51,7 @@ withBegin f =
       drop = machine .drop;
     }
 
-abbrev pub withHear : (Config → ℕ → Desk → Message → Outcome Desk) → Store
+abbrev pub withHear : (Config → ℕ → Desk → Message → Outcome Message Desk) → Store
 withHear f =
     record {
       transfer = machine .transfer;
@@ -63,7 +64,7 @@ withHear f =
       drop = machine .drop;
     }
 
-abbrev pub withResult : (Desk → Outcome Desk) → Store
+abbrev pub withResult : (Desk → Outcome Message Desk) → Store
 withResult f =
     record {
       transfer = machine .transfer;
@@ -80,10 +81,10 @@ withResult f =
 
 -- what a desk does with a reply of its current round
 abbrev pub OnReply : Type 0
-OnReply = Config → ℕ → Desk → Operation → Message → Outcome Desk
+OnReply = Config → ℕ → Desk → Operation → Message → Outcome Message Desk
 
 -- hear, where `on-own` is done with a reply on the desk's own set and `on-other` with one that has a transfer which the desk's set lacks
-unfoldable pub hearWith : OnReply → OnReply → Config → ℕ → Desk → Message → Outcome Desk
+unfoldable pub hearWith : OnReply → OnReply → Config → ℕ → Desk → Message → Outcome Message Desk
 hearWith on-own on-other c d x m =
     by-kind (m .kind) (refuse 7 x)
     (cond (eqb (m .desk) d)
@@ -98,7 +99,7 @@ abbrev pub enoughWeight : Config → Transfers → List Message → Bool
 enoughWeight c a l = quorumOf c a (answered l)
 
 -- a reply marks its server, where `enough` says on which replies the phase ends, `choosing` how phase 1 does, and `ending` what is left after phase 2
-unfoldable pub markWith : (Config → Transfers → List Message → Bool) → (Config → ℕ → Desk → Operation → Replica → Outcome Desk)
+unfoldable pub markWith : (Config → Transfers → List Message → Bool) → (Config → ℕ → Desk → Operation → Replica → Outcome Message Desk)
     → (Desk → Operation → Replica → Register → Desk) → OnReply
 markWith enough choosing ending c d x o m =
     let p = join (x .replica) (m .replica) in

@@ -1,6 +1,6 @@
 -- A store whose desk refuses everything, as busy.
 use Rattle.machine.specs.Calls.{refuse}
-use Rattle.machine.specs.Runs.{Store, machine}
+use Rattle.machine.specs.Steps.{Store, machine}
 
 abbrev pub refusesAll : Store
 refusesAll =

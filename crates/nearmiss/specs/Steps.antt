@@ -6,12 +6,12 @@ use mathlib.Core.List.{List, [], _∷_, _++_}
 use Rattle.config.specs.Cluster.{configOf, validOf}
 use Rattle.config.specs.declared.cluster.Config.{Config}
 use Rattle.machine.specs.Parties.{Register, read, Result}
-use Rattle.machine.specs.Calls.{Answer}
-use Rattle.machine.specs.Runs.{Step, begin, ask, serve, hear, result, transfer, share, Store, machine, State, opened, take, Run, answerAt}
+use Rattle.machine.specs.Runs.{Answer, opened, step, answerAt}
+use Rattle.machine.specs.Steps.{Step, begin, ask, serve, hear, result, transfer, share, Store, machine, PlainState, PlainRun, runOf}
 
 -- the run of a store, with n servers of which f may crash
-abbrev pub runBy : Store → ℕ → ℕ → List Step → Run
-runBy p n f l = record { store = p; config = configOf n f; steps = l }
+abbrev pub runBy : Store → ℕ → ℕ → List Step → PlainRun
+runBy p n f l = runOf p (configOf n f) l
 
 -- room for the longest message
 abbrev pub room : ℕ
@@ -46,15 +46,14 @@ abbrev pub written : Register → ℕ → Result
 written g restarts = record { is-write = true; register = g; restarts = restarts }
 
 -- the answers of a run, one after the other (proofs/Answers: answer k is `answerAt` of the run at k)
-unfoldable pub answersFrom : Store → Config → State → List Step → List Answer
-answersFrom p c s [] = []
-answersFrom p c s (x ∷ l) = let m = take p c s x in m .answer ∷ answersFrom p c (m .state) l
+unfoldable pub answersFrom : PlainRun → PlainState → List Step → List Answer
+answersFrom r s [] = []
+answersFrom r s (x ∷ l) = let m = step r s x in m .answer ∷ answersFrom r (m .state) l
 
-abbrev pub answers : Run → List Answer
-answers r = answersFrom (r .store) (r .config) opened (r .steps)
+abbrev pub answers : PlainRun → List Answer
+answers r = answersFrom r (opened r) (r .steps)
 
 -- every answer of a store, on every list of steps, is the plain machine's
 abbrev pub SameAnswers : Store → Type 0
 SameAnswers p =
-    (c : Config) → validOf c ≡ true → (l : List Step) (k : ℕ)
-    → answerAt (record { store = p; config = c; steps = l }) k ≡ answerAt (record { store = machine; config = c; steps = l }) k
+    (c : Config) → validOf c ≡ true → (l : List Step) (k : ℕ) → answerAt (runOf p c l) k ≡ answerAt (runOf machine c l) k

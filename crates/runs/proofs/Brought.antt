@@ -18,9 +18,10 @@ use Rattle.config.proofs.Clusters.{valid-bounds}
 use Rattle.ledger.specs.Ledgers.{countOf}
 use Rattle.machine.specs.Sets.{Transfer, Transfers, has, union, tally, count}
 use Rattle.machine.specs.Parties.{join, Message, bytesOf}
-use Rattle.machine.specs.Runs.{Step as PlainStep, begin, ask, serve, hear, result, drop, transfer, share, crash, Run as PlainRun, at as plainAt, answerAt as plainAnswer, nth, when}
+use Rattle.machine.specs.Runs.{at, answerAt, nth, when, deskAt}
+use Rattle.machine.specs.Steps.{Step as PlainStep, begin, ask, serve, hear, result, drop, transfer, share, crash, PlainRun}
+use Rattle.machine.specs.Seen.{accepted, heardBy, brings as plainBrings, brought as plainBrought, firstBrought as plainFirst}
 use Rattle.machine.specs.Clauses.{Found as PlainFound, by-desk as plain-desk, by-message as plain-message}
-use Rattle.machine.specs.Seen.{accepted, deskAt as plainDesk, heardBy, brings as plainBrings, brought as plainBrought, firstBrought as plainFirst}
 use Rattle.machine.proofs.Sets.{tally-same, tally-sum, missing-same}
 use Rattle.machine.proofs.Closed.{count-some}
 use Rattle.machine.proofs.Moves.{Seated}
@@ -29,8 +30,8 @@ use Rattle.machine.proofs.Restarts.{held, size-next, restarts}
 use Rattle.machine.proofs.Clashes.{found-agree}
 use Rattle.machine.proofs.SetRanges.{found-range}
 use Rattle.runs.specs.Steps.{Step, plain, Typed}
-use Rattle.runs.specs.Runs.{Run, at, runOf}
-use Rattle.runs.specs.Seen.{deskAt, ledgerIn, brings, brought, firstBrought, transfersIn}
+use Rattle.runs.specs.Runs.{ProgramRun, runOf}
+use Rattle.runs.specs.Seen.{ledgerIn, brings, brought, firstBrought, transfersIn}
 use Rattle.runs.specs.Clauses.{plainRun}
 use Rattle.runs.proofs.Ledgers.{count-below}
 use Rattle.runs.proofs.Simulation.{stands-at, answer-at}
@@ -57,7 +58,7 @@ counts-length n a h =
         ⊎-elim (λ (l : n ≤ t .giver). absurd (omega (arith, h (t .giver) l, count-some a t e))) (λ (l : t .giver < n). l) (le-or-lt n (t .giver))
 
 module _ (c : Config) (valid : validOf c ≡ true) (steps : List Step) (typed : Typed steps) where
-  abbrev p : Run
+  abbrev p : ProgramRun
   p = runOf c steps
 
   abbrev r : PlainRun
@@ -74,7 +75,7 @@ module _ (c : Config) (valid : validOf c ≡ true) (steps : List Step) (typed : 
   -- what is counted of a message heard
   heard-for : (d k i : ℕ) → i < 16 → (st : PlainStep)
       → when (heardBy d (at p k .sent) st) 0 (λ msg. countOf (ledgerIn c msg) i)
-      ≡ count (when (heardBy d (plainAt r k .sent) st) [] (λ m. m .replica .set)) i
+      ≡ count (when (heardBy d (at r k .sent) st) [] (λ m. m .replica .set)) i
   unfolding count tally
   heard-for d k i l (begin e t note) = refl
   heard-for d k i l (ask e j place out) = refl
@@ -86,7 +87,7 @@ module _ (c : Config) (valid : validOf c ≡ true) (steps : List Step) (typed : 
   heard-for d k i l (crash j) = refl
   heard-for d k i l (hear e q) = by-desk (eqb e d)
     where
-      by-place : (o : Option Message) → nth (plainAt r k .sent) q ≡ o
+      by-place : (o : Option Message) → nth (at r k .sent) q ≡ o
           → when (when o none (λ m. some (bytesOf c m))) 0 (λ msg. countOf (ledgerIn c msg) i) ≡ count (when o [] (λ m. m .replica .set)) i
       by-place none f = refl
       by-place (some m) f =
@@ -94,8 +95,8 @@ module _ (c : Config) (valid : validOf c ≡ true) (steps : List Step) (typed : 
 
       by-desk : (b : Bool)
           → when (cond b (nth (at p k .sent) q) none) 0 (λ msg. countOf (ledgerIn c msg) i)
-          ≡ count (when (cond b (nth (plainAt r k .sent) q) none) [] (λ m. m .replica .set)) i
-      by-desk true = rw (sent-at c valid steps typed k q) (by-place (nth (plainAt r k .sent) q) refl)
+          ≡ count (when (cond b (nth (at r k .sent) q) none) [] (λ m. m .replica .set)) i
+      by-desk true = rw (sent-at c valid steps typed k q) (by-place (nth (at r k .sent) q) refl)
       by-desk false = refl
 
   -- of each giver as many as the machine's step
@@ -105,28 +106,28 @@ module _ (c : Config) (valid : validOf c ≡ true) (steps : List Step) (typed : 
     where
       by-answer : (b : Bool) (st : PlainStep)
           → cond b (when (heardBy d (at p k .sent) st) 0 (λ msg. countOf (ledgerIn c msg) i)) 0
-          ≡ count (cond b (when (heardBy d (plainAt r k .sent) st) [] (λ m. m .replica .set)) []) i
+          ≡ count (cond b (when (heardBy d (at r k .sent) st) [] (λ m. m .replica .set)) []) i
       by-answer true st = heard-for d k i l st
       by-answer false st = refl
 
       by-step : (o : Option PlainStep)
-          → when o 0 (λ st. cond (accepted (plainAnswer r k)) (when (heardBy d (at p k .sent) st) 0 (λ msg. countOf (ledgerIn c msg) i)) 0)
+          → when o 0 (λ st. cond (accepted (answerAt r k)) (when (heardBy d (at p k .sent) st) 0 (λ msg. countOf (ledgerIn c msg) i)) 0)
           ≡ count
           (when o []
-          (λ st. cond (accepted (plainAnswer r k)) (when (heardBy d (plainAt r k .sent) st) [] (λ m. m .replica .set)) []))
+          (λ st. cond (accepted (answerAt r k)) (when (heardBy d (at r k .sent) st) [] (λ m. m .replica .set)) []))
           i
       by-step none = refl
-      by-step (some st) = by-answer (accepted (plainAnswer r k)) st
+      by-step (some st) = by-answer (accepted (answerAt r k)) st
 
   -- ---- what a desk's set has
 
   -- of each giver the larger of what it had and what the step brings
   count-next : (d k i : ℕ)
-      → count (plainDesk r d (suc k) .replica .set) i ≡ max (count (plainDesk r d k .replica .set) i) (count (plainBrings r d k) i)
+      → count (deskAt r d (suc k) .replica .set) i ≡ max (count (deskAt r d k .replica .set) i) (count (plainBrings r d k) i)
   unfolding join count tally
   count-next d k i =
       desk-moved c (map plain steps) d k
-      (λ a y. count (y .replica .set) i ≡ max (count (plainDesk r d k .replica .set) i) (count a i))
+      (λ a y. count (y .replica .set) i ≡ max (count (deskAt r d k .replica .set) i) (count a i))
       (record {
         still = same;
         begins = λ u note b l rests room. same;
@@ -137,16 +138,16 @@ module _ (c : Config) (valid : validOf c ≡ true) (steps : List Step) (typed : 
         ends = λ q m o g s f e h z. larger q m (f .sent);
       })
     where
-      same : count (plainDesk r d k .replica .set) i ≡ max (count (plainDesk r d k .replica .set) i) (count [] i)
+      same : count (deskAt r d k .replica .set) i ≡ max (count (deskAt r d k .replica .set) i) (count [] i)
       same = omega arith
 
-      larger : (q : ℕ) (m : Message) → nth (plainAt r k .sent) q ≡ some m
-          → count (union (plainDesk r d k .replica .set) (m .replica .set)) i ≡ max (count (plainDesk r d k .replica .set) i) (count (m .replica .set) i)
+      larger : (q : ℕ) (m : Message) → nth (at r k .sent) q ≡ some m
+          → count (union (deskAt r d k .replica .set) (m .replica .set)) i ≡ max (count (deskAt r d k .replica .set) i) (count (m .replica .set) i)
       larger q m e = found-agree c valid (map plain steps) k k _ _ (plain-desk d refl) (plain-message q m e refl) i .counts
 
   -- so it has what the hears brought
-  pub brought-for : (d k i : ℕ) → i < 16 → brought p d k i ≡ count (plainDesk r d k .replica .set) i
-  unfolding brought plainAt count tally
+  pub brought-for : (d k i : ℕ) → i < 16 → brought p d k i ≡ count (deskAt r d k .replica .set) i
+  unfolding brought at count tally
   brought-for d zero i l = refl
   brought-for d (suc k) i l = ap₂ {C = ℕ} (λ x y. max x y) (brought-for d k i l) (brings-for d k i l) ∙ sym (count-next d k i)
 
@@ -154,11 +155,11 @@ module _ (c : Config) (valid : validOf c ≡ true) (steps : List Step) (typed : 
 
   -- the counts of a desk's set grow by what the step is the first to bring
   counts-grow : (d k : ℕ)
-      → sum 16 (count (plainDesk r d (suc k) .replica .set)) ≡ sum 16 (count (plainDesk r d k .replica .set)) + firstBrought p d k
+      → sum 16 (count (deskAt r d (suc k) .replica .set)) ≡ sum 16 (count (deskAt r d k .replica .set)) + firstBrought p d k
   counts-grow d k =
       sum-same 16 _ _
       (λ i l. omega (arith, count-next d k i, brings-for d k i l, brought-for d k i l))
-      ∙ sum-add 16 (count (plainDesk r d k .replica .set)) (λ i. brings p d k i - brought p d k i)
+      ∙ sum-add 16 (count (deskAt r d k .replica .set)) (λ i. brings p d k i - brought p d k i)
 
   -- as many as the machine's set lacked
   pub first-for : (d k : ℕ) → firstBrought p d k ≡ length (plainFirst r d k)
@@ -166,18 +167,18 @@ module _ (c : Config) (valid : validOf c ≡ true) (steps : List Step) (typed : 
       omega (
         arith,
         counts-grow d k,
-        size-counts k (plainDesk r d k .replica .set) (plain-desk d refl),
-        size-counts (suc k) (plainDesk r d (suc k) .replica .set) (plain-desk d refl),
+        size-counts k (deskAt r d k .replica .set) (plain-desk d refl),
+        size-counts (suc k) (deskAt r d (suc k) .replica .set) (plain-desk d refl),
         size-next c (map plain steps) d k,
         ap (λ a. length a)
-            (missing-same (plainBrought r d k) (plainDesk r d k .replica .set) (plainBrings r d k) (held c (map plain steps) d k)),
+            (missing-same (plainBrought r d k) (deskAt r d k .replica .set) (plainBrings r d k) (held c (map plain steps) d k)),
       )
 
   -- ---- what a desk holds
 
   -- the ledger that a desk holds has as many transfers as the machine's set
-  pub transfers-for : (d k : ℕ) → Seated d → transfersIn (deskAt p d k .replica .ledger) ≡ length (plainDesk r d k .replica .set)
+  pub transfers-for : (d k : ℕ) → Seated d → transfersIn (deskAt p d k .replica .ledger) ≡ length (deskAt r d k .replica .set)
   transfers-for d k seated =
       ap (λ x. transfersIn (x .replica .ledger)) (stands-at c valid steps typed k .desks d seated)
-      ∙ sum-same 16 _ _ (count-below (plainDesk r d k .replica .set))
-      ∙ size-counts k (plainDesk r d k .replica .set) (plain-desk d refl)
+      ∙ sum-same 16 _ _ (count-below (deskAt r d k .replica .set))
+      ∙ size-counts k (deskAt r d k .replica .set) (plain-desk d refl)

@@ -30,7 +30,8 @@ use Rattle.desk.proofs.Marks.{marked-names, marked-map}
 use Rattle.desk.proofs.Operations.{told-operation, mode-later, kind-fits, none-answered, none-fits}
 use Rattle.desk.proofs.Desks.{told-fits}
 use Rattle.machine.specs.Parties.{Register, Message, bytesOf, Task, read, write, valueOf as taskValue, by-task, Phase, first, second, Operation, Result, Activity, idle, running, ended, if-running, if-ended, Desk as PlainDesk, answered}
-use Rattle.machine.specs.Calls.{mostRound, mostValue, Answer, done, told, accept, refuse, send, requestOf, begun as begunBy, beginBy, askBy, resultBy, dropped as droppedBy, dropBy}
+use Rattle.machine.specs.Runs.{Answer, done, told}
+use Rattle.machine.specs.Calls.{mostRound, mostValue, accept, refuse, send, requestOf, begun as begunBy, beginBy, askBy, resultBy, dropped as droppedBy, dropBy}
 use Rattle.machine.proofs.Lists.{In}
 use Rattle.machine.proofs.Moves.{Seated}
 use Rattle.machine.proofs.WorkRanges.{ActivityRange}

@@ -19,7 +19,8 @@ use Rattle.desk.specs.Operations.{running as runningMode}
 use Rattle.desk.specs.Hears.{late, refused, stray, timely, clashes, restartOf, markOf, hearFields, hearOf}
 use Rattle.machine.specs.Sets.{includes, count}
 use Rattle.machine.specs.Parties.{Kind, request, reply, share, by-kind, kindNumber, Message, bytesOf, join as plainJoin, Operation, Activity, idle, running, ended, if-running, Desk as PlainDesk}
-use Rattle.machine.specs.Calls.{Outcome, accept, refuse, late as plainLate, knows, mark, restart, hearBy}
+use Rattle.machine.specs.Runs.{Outcome, late as plainLate}
+use Rattle.machine.specs.Calls.{accept, refuse, knows, mark, restart, hearBy}
 use Rattle.machine.proofs.Moves.{Seated}
 use Rattle.machine.proofs.Clashes.{Joins}
 use Rattle.machine.proofs.WorkRanges.{HeadRange}
@@ -42,7 +43,7 @@ pub record Hearable (c : Config) (d : ℕ) (x : PlainDesk) (m : Message) : Type 
 
 module _ (c : Config) (valid : validOf c ≡ true) (d : ℕ) (x : PlainDesk) (h : Held c (x .replica)) (m : Message) (k : Hearable c d x m) where
   -- what is handed back for the machine's desk
-  abbrev Same : Heard → Outcome PlainDesk → Type 0
+  abbrev Same : Heard → Outcome Message PlainDesk → Type 0
   Same a p = heardCalled a ≡ calledFor c (deskFor c d) p
 
   -- the program's desk
@@ -89,7 +90,7 @@ module _ (c : Config) (valid : validOf c ≡ true) (d : ℕ) (x : PlainDesk) (h 
   answer t = cond t (cond (clashes desk (replicaFor (m .replica))) (refused (refusal 6) desk) effect) (late desk)
 
   -- what the machine does with it
-  abbrev plainAnswer : Activity → Outcome PlainDesk
+  abbrev plainAnswer : Activity → Outcome Message PlainDesk
   plainAnswer a =
       if-running a (λ o. cond (eqb (m .round) (x .round)) (cond (knows x m) (mark c d x o m) (restart x o m)) (accept plainLate x)) (accept plainLate x)
 

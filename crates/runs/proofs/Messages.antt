@@ -31,7 +31,8 @@ use Rattle.replica.proofs.Envelopes.{told-lawful, received-back}
 use Rattle.replica.proofs.Placed.{place-room, placed-message}
 use Rattle.machine.specs.Sets.{union}
 use Rattle.machine.specs.Parties.{Replica, join as plainJoin, Kind, request, reply, share, kindNumber, Message, fieldsOf, bytesOf}
-use Rattle.machine.specs.Calls.{wrote, refuse, send}
+use Rattle.machine.specs.Runs.{wrote}
+use Rattle.machine.specs.Calls.{refuse, send}
 use Rattle.machine.proofs.Moves.{Seated}
 use Rattle.machine.proofs.DesksKept.{kinds-apart}
 use Rattle.machine.proofs.Clashes.{Joins}

@@ -17,16 +17,17 @@ use Rattle.server.specs.declared.record.Server.{Server}
 use Rattle.desk.specs.declared.operation.Operation.{Operation}
 use Rattle.desk.specs.declared.record.Desk.{Desk}
 use Rattle.desk.specs.Operations.{reading, writing, running as runningMode, ended as endedMode, noOperation}
+use Rattle.desk.specs.Desks.{openOf as openDesk}
 use Rattle.desk.specs.Hears.{marked}
 use Rattle.machine.specs.Sets.{Transfers, count, cell}
-use Rattle.machine.specs.Parties.{Register as PlainRegister, Replica as PlainReplica, Message, kindNumber, bytesOf, Task, by-task, valueOf as taskValue, Phase, by-phase, Activity, idle, running, ended, Desk as PlainDesk}
-use Rattle.machine.specs.Calls.{Outcome}
-use Rattle.machine.specs.Runs.{State as PlainState, opened as plainOpened}
+use Rattle.machine.specs.Parties.{Register as PlainRegister, Replica as PlainReplica, Message, kindNumber, bytesOf, Task, by-task, valueOf as taskValue, Phase, by-phase, Activity, idle, running, ended, Desk as PlainDesk, freshDesk}
+use Rattle.machine.specs.Runs.{Outcome}
+use Rattle.machine.specs.Steps.{PlainState}
 use Rattle.machine.specs.Clauses.{Sound}
 use Rattle.machine.proofs.Moves.{Seated}
 use Rattle.machine.proofs.Ranges.{ReplicaRange}
 use Rattle.runs.specs.Calls.{Called}
-use Rattle.runs.specs.Runs.{State, opened}
+use Rattle.runs.specs.Runs.{ProgramState}
 
 -- ---- what is held
 
@@ -99,7 +100,7 @@ abbrev pub envelopeFor : Message → Envelope
 envelopeFor m = record { kind = kindNumber (m .kind); server = m .server; desk = m .desk; round = m .round; note = m .note }
 
 -- what a call comes to, where f gives the record for what a party holds
-abbrev pub calledFor : {A B : Type 0} → Config → (A → B) → Outcome A → Called B
+abbrev pub calledFor : {A B : Type 0} → Config → (A → B) → Outcome Message A → Called B
 calledFor c f o = record { answer = o .answer; party = f (o .party); sent = map (bytesOf c) (o .sent) }
 
 -- ---- what the machine's invariant supplies
@@ -110,10 +111,10 @@ pub record Held (c : Config) (x : PlainReplica) : Type 0 where
   pub sound : Sound c (x .set)
 
 -- The program's state t stands for the machine's state s.
-pub record Stands (c : Config) (s : PlainState) (t : State) : Type 0 where
-  pub servers : (i : ℕ) → i < c .n → t .servers i ≡ serverFor c i (s .servers i .replica)
-  pub crashed : (i : ℕ) → t .crashed i ≡ s .servers i .crashed
+pub record Stands (c : Config) (s : PlainState) (t : ProgramState) : Type 0 where
+  pub servers : (i : ℕ) → i < c .n → t .servers i ≡ serverFor c i (s .servers i)
+  pub crashed : t .crashed ≡ s .crashed
   pub desks : (d : ℕ) → Seated d → t .desks d ≡ deskFor c d (s .desks d)
   -- there is no other desk, and no call was made of one
-  pub others : (d : ℕ) → (Seated d → ⊥) → (t .desks d ≡ opened c .desks d) × (s .desks d ≡ plainOpened .desks d)
+  pub others : (d : ℕ) → (Seated d → ⊥) → (t .desks d ≡ openDesk (c .n) (c .f) d .desk) × (s .desks d ≡ freshDesk)
   pub sent : t .sent ≡ map (bytesOf c) (s .sent)

@@ -17,7 +17,8 @@ use Rattle.desk.specs.Hears.{accepted, refused, restarted, restartOf, noStamp, 
 use Rattle.desk.proofs.Heeded.{waiting}
 use Rattle.machine.specs.Sets.{union, quorumOf as plainQuorum}
 use Rattle.machine.specs.Parties.{Register, Replica, join, Message, Task, read, write, writes, valueOf, Phase, first, second, by-phase, Operation, running, Desk as PlainDesk, answered}
-use Rattle.machine.specs.Calls.{Outcome, accept, refuse, done, mostRound, restart, restarted as plainRestarted, chosen, no-stamp, choose, moved-on, finished as plainFinished, mark, marked as plainMarked}
+use Rattle.machine.specs.Runs.{Outcome, done}
+use Rattle.machine.specs.Calls.{accept, refuse, mostRound, restart, restarted as plainRestarted, chosen, no-stamp, choose, moved-on, finished as plainFinished, mark, marked as plainMarked}
 use Rattle.machine.proofs.SetRanges.{SetRange}
 use Rattle.runs.specs.Calls.{heardCalled}
 use Rattle.runs.proofs.Records.{mapFor, kindFor, phaseFor, registerFor, replicaFor, deskFor, calledFor}
@@ -42,7 +43,7 @@ busy y k o = record { replica = y; round = k; activity = running o }
 
 module _ (c : Config) (d : ℕ) (y : Replica) (k : ℕ) (o : Operation) where
   -- what is handed back for the machine's desk
-  abbrev Same : Heard → Outcome PlainDesk → Type 0
+  abbrev Same : Heard → Outcome Message PlainDesk → Type 0
   Same h p = heardCalled h ≡ calledFor c (deskFor c d) p
 
   -- the program's desk
@@ -50,7 +51,7 @@ module _ (c : Config) (d : ℕ) (y : Replica) (k : ℕ) (o : Operation) where
   desk = deskFor c d (busy y k o)
 
   -- the same on both sides of a test
-  either : (t : Bool) (h g : Heard) (p q : Outcome PlainDesk) → Same h p → Same g q → Same (cond t h g) (cond t p q)
+  either : (t : Bool) (h g : Heard) (p q : Outcome Message PlainDesk) → Same h p → Same g q → Same (cond t h g) (cond t p q)
   either true h g p q e f = e
   either false h g p q e f = f
 

@@ -23,7 +23,8 @@ use Rattle.server.proofs.Servers.{told-fits}
 use Rattle.server.proofs.Told.{fields-stray, fields-share, fields-reply, reply-written, reply-narrow}
 use Rattle.machine.specs.Sets.{count}
 use Rattle.machine.specs.Parties.{Replica, join, Kind, request, reply, share, Message, by-kind, bytesOf}
-use Rattle.machine.specs.Calls.{mostCount, done, wrote, accept, refuse, send, given-away, spares as plainSpares, transferBy, shareBy, replyTo, served, answerRequest, serveBy}
+use Rattle.machine.specs.Runs.{done, wrote}
+use Rattle.machine.specs.Calls.{mostCount, accept, refuse, send, given-away, spares as plainSpares, transferBy, shareBy, replyTo, served, answerRequest, serveBy}
 use Rattle.machine.proofs.Joins.{join-either}
 use Rattle.machine.proofs.Clashes.{Joins}
 use Rattle.machine.proofs.Ranges.{RegisterRange}

@@ -13,12 +13,13 @@ use Rattle.ledger.specs.Maps.{named}
 use Rattle.replica.specs.Envelopes.{receiveOf}
 use Rattle.machine.specs.Sets.{Transfers}
 use Rattle.machine.specs.Parties.{Message, bytesOf}
-use Rattle.machine.specs.Runs.{Run as PlainRun, at as plainAt, nth, when}
+use Rattle.machine.specs.Runs.{at, nth, when}
+use Rattle.machine.specs.Steps.{PlainRun}
 use Rattle.machine.specs.Clauses.{Found as PlainFound, Sound as PlainSound, by-server as plain-server, by-desk as plain-desk, by-message as plain-message}
 use Rattle.machine.proofs.Sheets.{sheets as plain-sheets}
 use Rattle.machine.proofs.SetRanges.{SetRange, found-range}
 use Rattle.runs.specs.Steps.{Step, Typed, plain}
-use Rattle.runs.specs.Runs.{Run, at, runOf}
+use Rattle.runs.specs.Runs.{ProgramRun, runOf}
 use Rattle.runs.specs.Seen.{ledgerIn}
 use Rattle.runs.specs.Clauses.{plainRun, Found, by-server, by-desk, by-message, Sound, Sheets}
 use Rattle.runs.proofs.Records.{ledgerFor}
@@ -40,11 +41,11 @@ sound-for c valid a w s =
 -- the message of the machine that bytes of the program's run stand for, at the same place among those sent
 pub record Sent (r : PlainRun) (k q : ℕ) (msg : List ℕ) : Type 0 where
   pub message : Message
-  pub sent : nth (plainAt r k .sent) q ≡ some message
+  pub sent : nth (at r k .sent) q ≡ some message
   pub bytes : bytesOf (r .config) message ≡ msg
 
 module _ (c : Config) (valid : validOf c ≡ true) (steps : List Step) (typed : Typed steps) where
-  abbrev p : Run
+  abbrev p : ProgramRun
   p = runOf c steps
 
   abbrev r : PlainRun
@@ -53,18 +54,18 @@ module _ (c : Config) (valid : validOf c ≡ true) (steps : List Step) (typed : 
   -- ---- messages
 
   -- what is sent at each place
-  pub sent-at : (k q : ℕ) → nth (at p k .sent) q ≡ when (nth (plainAt r k .sent) q) none (λ m. some (bytesOf c m))
-  sent-at k q = ap (λ l. nth l q) (stands-at c valid steps typed k .sent) ∙ nth-map (bytesOf c) (plainAt r k .sent) q
+  pub sent-at : (k q : ℕ) → nth (at p k .sent) q ≡ when (nth (at r k .sent) q) none (λ m. some (bytesOf c m))
+  sent-at k q = ap (λ l. nth l q) (stands-at c valid steps typed k .sent) ∙ nth-map (bytesOf c) (at r k .sent) q
 
   -- so all bytes sent are those of a message
   pub sent-from : (k q : ℕ) (msg : List ℕ) → nth (at p k .sent) q ≡ some msg → Sent r k q msg
-  sent-from k q msg e = by-place (nth (plainAt r k .sent) q) refl (sym (sent-at k q) ∙ e)
+  sent-from k q msg e = by-place (nth (at r k .sent) q) refl (sym (sent-at k q) ∙ e)
     where
-      by-place : (o : Option Message) → nth (plainAt r k .sent) q ≡ o → when o none (λ m. some (bytesOf c m)) ≡ some msg → Sent r k q msg
+      by-place : (o : Option Message) → nth (at r k .sent) q ≡ o → when o none (λ m. some (bytesOf c m)) ≡ some msg → Sent r k q msg
       by-place none f g = absurd (Option·none-ne-some msg g)
       by-place (some m) f g = record { message = m; sent = f; bytes = Option·some-injective (bytesOf c m) msg g }
 
-  module _ (k q : ℕ) (m : Message) (e : nth (plainAt r k .sent) q ≡ some m) where
+  module _ (k q : ℕ) (m : Message) (e : nth (at r k .sent) q ≡ some m) where
     -- they pass their checks, and carry the ledger for the message's set
     pub sent-passes : receiveOf c (bytesOf c m) .verdict ≡ Verdict.Accepted
     sent-passes = ap (λ x. x .verdict) (received-for c valid m (message-head c valid steps typed k q m e) (message-held c valid steps typed k q m e))

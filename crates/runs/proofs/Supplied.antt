@@ -8,7 +8,8 @@ use mathlib.Core.Option.{some}
 use Rattle.config.specs.Cluster.{validOf}
 use Rattle.config.specs.declared.cluster.Config.{Config}
 use Rattle.machine.specs.Parties.{Message}
-use Rattle.machine.specs.Runs.{Run as PlainRun, nth, at as plainAt}
+use Rattle.machine.specs.Runs.{nth, at}
+use Rattle.machine.specs.Steps.{PlainRun}
 use Rattle.machine.specs.Clauses.{by-server, by-desk, by-message}
 use Rattle.machine.proofs.Lists.{nth-in}
 use Rattle.machine.proofs.Sheets.{sheets}
@@ -23,28 +24,28 @@ module _ (c : Config) (valid : validOf c ≡ true) (steps : List Step) (typed : 
   abbrev r : PlainRun
   r = plainRun (runOf c steps)
 
-  state-range : (k : ℕ) → StateRange c (plainAt r k)
+  state-range : (k : ℕ) → StateRange c (at r k)
   state-range k = ranges c valid (map plain steps) typed k
 
   -- a server
-  pub server-held : (k i : ℕ) → Held c (plainAt r k .servers i .replica)
+  pub server-held : (k i : ℕ) → Held c (at r k .servers i)
   server-held k i = record { range = state-range k .servers i; sound = sheets c valid (map plain steps) k _ (by-server i refl) }
 
   -- a desk
-  pub desk-range : (k d : ℕ) → DeskRange c (plainAt r k .sent) d (plainAt r k .desks d)
+  pub desk-range : (k d : ℕ) → DeskRange c (at r k .sent) d (at r k .desks d)
   desk-range k d = state-range k .desks d
 
-  pub desk-held : (k d : ℕ) → Held c (plainAt r k .desks d .replica)
+  pub desk-held : (k d : ℕ) → Held c (at r k .desks d .replica)
   desk-held k d = record { range = desk-range k d .replica; sound = sheets c valid (map plain steps) k _ (by-desk d refl) }
 
   -- a message
-  module _ (k q : ℕ) (m : Message) (sent : nth (plainAt r k .sent) q ≡ some m) where
+  module _ (k q : ℕ) (m : Message) (sent : nth (at r k .sent) q ≡ some m) where
     pub message-head : HeadRange c m
-    message-head = state-range k .messages m (nth-in (plainAt r k .sent) q m sent) .head
+    message-head = state-range k .messages m (nth-in (at r k .sent) q m sent) .head
 
     pub message-held : Held c (m .replica)
     message-held =
         record {
-          range = state-range k .messages m (nth-in (plainAt r k .sent) q m sent) .replica;
+          range = state-range k .messages m (nth-in (at r k .sent) q m sent) .replica;
           sound = sheets c valid (map plain steps) k _ (by-message q m sent refl);
         }

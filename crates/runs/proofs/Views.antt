@@ -12,24 +12,22 @@ use Rattle.quorums.specs.Sum.{sum}
 use Rattle.config.specs.Cluster.{validOf}
 use Rattle.config.specs.declared.cluster.Config.{Config}
 use Rattle.config.specs.Refusals.{refusal}
-use Rattle.desk.specs.Desks.{numberLawful, fits, accepted, refused, freshDesk, blankDesk, opens, openOf as openDesk}
-use Rattle.desk.specs.Results.{resultOf}
-use Rattle.machine.specs.Parties.{Register, Phase, first, second, by-phase, Operation, Activity, idle, running, ended}
-use Rattle.machine.specs.Calls.{resultBy}
-use Rattle.machine.specs.Runs.{Run as PlainRun, opened as plainOpened, at as plainAt}
-use Rattle.machine.specs.Seen.{deskAt as plainDesk, resultIn, chosenIn as plainChosen, viewOf as plainView}
+use Rattle.desk.specs.Desks.{numberLawful, accepted, refused, freshDesk, blankDesk, opens, openOf as openDesk}
+use Rattle.machine.specs.Parties.{Register, Phase, first, second, by-phase, Operation, Activity, idle, running, ended, freshDesk as plainFresh}
+use Rattle.machine.specs.Runs.{at, deskAt}
+use Rattle.machine.specs.Steps.{PlainRun}
+use Rattle.machine.specs.Seen.{resultIn, chosenIn as plainChosen, viewOf as plainView}
 use Rattle.machine.proofs.Moves.{Seated}
 use Rattle.machine.proofs.Ranges.{RegisterRange}
-use Rattle.runs.specs.Steps.{Step, plain, Typed}
-use Rattle.runs.specs.Calls.{plainRegister, resultCall}
-use Rattle.runs.specs.Runs.{opened, Run, runOf}
-use Rattle.runs.specs.Seen.{deskAt, chosenIn, transfersIn, viewOf}
+use Rattle.runs.specs.Steps.{Step, result, plain, Typed}
+use Rattle.runs.specs.Calls.{plainRegister}
+use Rattle.runs.specs.Runs.{ProgramRun, runOf}
+use Rattle.runs.specs.Seen.{chosenIn, transfersIn, viewOf}
 use Rattle.runs.specs.Clauses.{plainRun}
 use Rattle.runs.proofs.Records.{phaseFor, chosenFor, operationFor}
 use Rattle.runs.proofs.Registers.{register-back}
-use Rattle.runs.proofs.Desks.{result-for}
-use Rattle.runs.proofs.Supplied.{desk-range, desk-held}
-use Rattle.runs.proofs.Simulation.{stands-at, answer-at}
+use Rattle.runs.proofs.Supplied.{desk-range}
+use Rattle.runs.proofs.Simulation.{step-same, stands-at, answer-at}
 use Rattle.runs.proofs.Brought.{first-for, transfers-for}
 
 -- the register that phase 1 chose, as it stands in the record for what a desk does
@@ -54,7 +52,7 @@ either A d f g = by-tests (leb 1 d) (leb d 65535) refl refl
     by-tests false b e h = g (λ s. omega (arith, s .some, leb-false 1 d e))
 
 module _ (c : Config) (valid : validOf c ≡ true) (steps : List Step) (typed : Typed steps) where
-  abbrev p : Run
+  abbrev p : ProgramRun
   p = runOf c steps
 
   abbrev r : PlainRun
@@ -63,28 +61,22 @@ module _ (c : Config) (valid : validOf c ≡ true) (steps : List Step) (typed : 
   -- ---- desks with a number that desks have
 
   module _ (d k : ℕ) (seated : Seated d) where
-    gives-seated : resultIn (resultCall (deskAt p d k) .answer) ≡ resultIn (r .store .result (plainDesk r d k) .answer)
-    gives-seated =
-        ap (λ x. resultIn (resultCall x .answer)) (stands-at c valid steps typed k .desks d seated)
-        ∙ ap (λ o. resultIn (o .answer))
-        (result-for c valid (plainAt r k .sent) d seated (plainDesk r d k) (desk-range c valid steps typed k d) (desk-held c valid steps typed k d))
-
-    chosen-seated : chosenIn (deskAt p d k .operation) ≡ plainChosen (plainDesk r d k .activity)
+    chosen-seated : chosenIn (deskAt p d k .operation) ≡ plainChosen (deskAt r d k .activity)
     chosen-seated =
         ap (λ x. chosenIn (x .operation)) (stands-at c valid steps typed k .desks d seated)
-        ∙ chosen-for c (plainDesk r d k .activity) (desk-range c valid steps typed k d .chosen)
+        ∙ chosen-for c (deskAt r d k .activity) (desk-range c valid steps typed k d .chosen)
 
   -- ---- and other numbers: nothing is ever done
 
   module _ (d k : ℕ) (other : Seated d → ⊥) where
-    idle-record : deskAt p d k ≡ opened c .desks d
+    idle-record : deskAt p d k ≡ openDesk (c .n) (c .f) d .desk
     idle-record = stands-at c valid steps typed k .others d other .0
 
-    idle-desk : plainDesk r d k ≡ plainOpened .desks d
+    idle-desk : deskAt r d k ≡ plainFresh
     idle-desk = stands-at c valid steps typed k .others d other .1
 
     -- there is no such desk
-    none-opened : opened c .desks d ≡ blankDesk
+    none-opened : openDesk (c .n) (c .f) d .desk ≡ blankDesk
     unfolding openDesk opens numberLawful
     none-opened = by-tests (leb 1 d) (leb d 65535) (λ a b. other (record { some = leb-true 1 d a; most = leb-true d 65535 b }))
       where
@@ -94,21 +86,17 @@ module _ (c : Config) (valid : validOf c ≡ true) (steps : List Step) (typed : 
         by-tests true false n = refl
         by-tests false b n = refl
 
-    gives-none : resultIn (resultCall (deskAt p d k) .answer) ≡ resultIn (r .store .result (plainDesk r d k) .answer)
-    unfolding resultCall resultOf resultBy fits numberLawful
-    gives-none = rw (idle-record ∙ none-opened, idle-desk) refl
-
-    chosen-none : chosenIn (deskAt p d k .operation) ≡ plainChosen (plainDesk r d k .activity)
+    chosen-none : chosenIn (deskAt p d k .operation) ≡ plainChosen (deskAt r d k .activity)
     chosen-none = rw (idle-record ∙ none-opened, idle-desk) refl
 
-    transfers-none : transfersIn (deskAt p d k .replica .ledger) ≡ length (plainDesk r d k .replica .set)
+    transfers-none : transfersIn (deskAt p d k .replica .ledger) ≡ length (deskAt r d k .replica .set)
     unfolding sum
     transfers-none = rw (idle-record ∙ none-opened, idle-desk) refl
 
   -- ---- the whole
 
   gives-same : (d k : ℕ) → viewOf p .gives d k ≡ plainView r .gives d k
-  gives-same d k = either _ d (gives-seated d k) (gives-none d k)
+  gives-same d k = ap resultIn (step-same c valid steps typed k (at p k) (stands-at c valid steps typed k) (result d) .answer)
 
   chosen-same : (d k : ℕ) → viewOf p .chosen d k ≡ plainView r .chosen d k
   chosen-same d k = either _ d (chosen-seated d k) (chosen-none d k)

@@ -30,7 +30,7 @@ use Rattle.desk.specs.Asks.{askOf}
 use Rattle.desk.specs.Hears.{hearOf}
 use Rattle.desk.specs.Results.{resultOf}
 use Rattle.machine.specs.Parties.{Register as PlainRegister, Task, by-task}
-use Rattle.machine.specs.Calls.{Answer, unmade, late, refused, done, wrote, told}
+use Rattle.machine.specs.Runs.{Answer, unmade, late, refused, done, wrote, told, Outcome}
 
 -- ---- answers
 
@@ -64,10 +64,9 @@ toldAnswer t =
 
 -- ---- what a call comes to
 
-pub record Called (A : Type 0) : Type 0 where
-  pub answer : Answer
-  pub party : A
-  pub sent : List (List ℕ)
+-- a message of the program is its bytes
+abbrev pub Called : Type 0 → Type 0
+Called A = Outcome (List ℕ) A
 
 -- What an accepted call sends: the bytes that it wrote, from the place given up to the one handed back. A served share wrote none.
 abbrev pub sentBy : Number → List ℕ → ℕ → List (List ℕ)

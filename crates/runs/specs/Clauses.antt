@@ -1,8 +1,8 @@
 -- Demand 3 (paper 01, "The runs of demand 3"), about a run of the program: equality with the plain machine, the clauses of its view, and the sheets.
-use Prim.Native.Nat.{ℕ, suc, _-_, _≤_, _<_}
+use Prim.Native.Nat.{ℕ, _-_, _≤_, _<_}
 use mathlib.Core.Path.{_≡_}
 use mathlib.Core.Bool.{true}
-use mathlib.Core.List.{List, [], _∷_, map}
+use mathlib.Core.List.{List, map}
 use mathlib.Core.Option.{some}
 use lib.IntN.{pos}
 use Rattle.quorums.specs.Sum.{size}
@@ -14,42 +14,30 @@ use Rattle.ledger.specs.Maps.{named, mapOf}
 use Rattle.ledger.specs.Weights.{weightOf, allOf, quorumOf}
 use Rattle.replica.specs.Envelopes.{receiveOf}
 use Rattle.machine.specs.Parties.{bytesOf}
-use Rattle.machine.specs.Calls.{Answer}
-use Rattle.machine.specs.Runs.{Run as PlainRun, machine, at as plainAt, answerAt as plainAnswer, nth}
+use Rattle.machine.specs.Runs.{nth, at, answersOf}
+use Rattle.machine.specs.Steps.{machine, PlainRun, runOf as plainRunOf}
 use Rattle.machine.specs.Views.{Order, Values, Results, Restarts}
 use Rattle.runs.specs.Steps.{plain}
-use Rattle.runs.specs.Runs.{Run, at, answerAt}
+use Rattle.runs.specs.Runs.{ProgramRun}
 use Rattle.runs.specs.Seen.{ledgerIn, viewOf}
 
 -- ---- equality with the plain machine
 
--- f 0, … , f (n − 1), by the places of a list of n elements
-unfoldable pub inTurn : {A B : Type 0} → List A → (ℕ → B) → List B
-inTurn [] f = []
-inTurn (x ∷ l) f = f 0 ∷ inTurn l (λ k. f (suc k))
-
 -- the plain machine's run of the same steps, of whose buffers it knows the lengths alone
-abbrev pub plainRun : Run → PlainRun
-plainRun r = record { store = machine; config = r .config; steps = map plain (r .steps) }
-
--- the answers to all steps, of the program and of the machine
-abbrev pub answersOf : Run → List Answer
-answersOf r = inTurn (r .steps) (answerAt r)
-
-abbrev pub plainAnswers : Run → List Answer
-plainAnswers r = inTurn (r .steps) (plainAnswer (plainRun r))
+abbrev pub plainRun : ProgramRun → PlainRun
+plainRun r = plainRunOf machine (r .config) (map plain (r .steps))
 
 -- the bytes of the messages that the first k steps sent, of the program and of the machine, whose bytes are its fields by the byte table
-abbrev pub sentBytes : Run → ℕ → List (List ℕ)
+abbrev pub sentBytes : ProgramRun → ℕ → List (List ℕ)
 sentBytes r k = at r k .sent
 
-abbrev pub plainBytes : Run → ℕ → List (List ℕ)
-plainBytes r k = map (bytesOf (r .config)) (plainAt (plainRun r) k .sent)
+abbrev pub plainBytes : ProgramRun → ℕ → List (List ℕ)
+plainBytes r k = map (bytesOf (r .config)) (at (plainRun r) k .sent)
 
 -- ---- sheets
 
 -- a ledger that is held by a server or a desk, or was sent, after the first k steps
-pub data Found (r : Run) (k : ℕ) (l : Ledger) : Type 0 where
+pub data Found (r : ProgramRun) (k : ℕ) (l : Ledger) : Type 0 where
   by-server : (i : ℕ) → i < r .config .n → at r k .servers i .replica .ledger ≡ l → Found r k l
   by-desk : (d : ℕ) → 1 ≤ d → d ≤ 65535 → at r k .desks d .replica .ledger ≡ l → Found r k l
   by-message : (p : ℕ) (msg : List ℕ) → nth (at r k .sent) p ≡ some msg → ledgerIn (r .config) msg ≡ l → Found r k l
@@ -61,7 +49,7 @@ pub record Sound (c : Config) (l : Ledger) : Type 0 where
   pub majority : (m : ℕ) → mapOf c m ≡ true → c .n - c .f ≤ size (c .n) (named m) → quorumOf c l m ≡ true
 
 -- So it is on every sheet held or sent; and every message sent passes its checks.
-pub record Sheets (r : Run) : Type 0 where
+pub record Sheets (r : ProgramRun) : Type 0 where
   pub sound : (k : ℕ) (l : Ledger) → Found r k l → Sound (r .config) l
   pub readable : (k p : ℕ) (msg : List ℕ) → nth (at r k .sent) p ≡ some msg → receiveOf (r .config) msg .verdict ≡ Verdict.Accepted
 
@@ -70,9 +58,9 @@ pub record Sheets (r : Run) : Type 0 where
 -- Demand 3 of a run, which is any list of begin, ask, serve, hear, hear on a lent record, result, drop, transfer, share and crash, refused ones included,
 -- from a fresh cluster; serve and hear take any message already sent, as often as the list says, so that the network may lose, double, delay and reorder,
 -- but never forges.
-pub record Demand3 (r : Run) : Type 0 where
+pub record Demand3 (r : ProgramRun) : Type 0 where
   -- "Every answer and every sent byte equals that of the plain machine in paper 01."
-  pub answers : answersOf r ≡ plainAnswers r
+  pub answers : answersOf r ≡ answersOf (plainRun r)
   pub bytes : (k : ℕ) → sentBytes r k ≡ plainBytes r k
   -- "If operation A ended before B began, B's tag is no lower than A's, and higher where B writes."
   pub order : Order (viewOf r)

@@ -10,19 +10,14 @@ use Rattle.ledger.specs.Ledgers.{countOf}
 use Rattle.ledger.specs.declared.ledger.Ledger.{Ledger}
 use Rattle.replica.specs.Envelopes.{receiveOf}
 use Rattle.desk.specs.declared.operation.Operation.{Operation}
-use Rattle.desk.specs.declared.record.Desk.{Desk}
 use Rattle.desk.specs.Operations.{running}
 use Rattle.machine.specs.Parties.{Register}
-use Rattle.machine.specs.Runs.{nth, when}
+use Rattle.machine.specs.Runs.{nth, when, step, at, answerAt, deskAt}
 use Rattle.machine.specs.Views.{View}
 use Rattle.machine.specs.Seen.{resultIn, accepted, heardBy}
-use Rattle.runs.specs.Steps.{plain}
-use Rattle.runs.specs.Calls.{plainRegister, resultCall}
-use Rattle.runs.specs.Runs.{Run, at, answerAt}
-
--- the record of desk d after the first k steps
-abbrev pub deskAt : Run → ℕ → ℕ → Desk
-deskAt r d k = at r k .desks d
+use Rattle.runs.specs.Steps.{result, plain}
+use Rattle.runs.specs.Calls.{plainRegister}
+use Rattle.runs.specs.Runs.{ProgramRun}
 
 -- the register that phase 1 chose, of an operation in phase 2
 abbrev pub chosenIn : Operation → Option Register
@@ -36,18 +31,18 @@ ledgerIn c msg = receiveOf c msg .replica .ledger
 
 -- How many transfers of giver i step k brings to desk d: those of the reply, where step k is a hear of d, neither refused nor late. A giver's numbers run
 -- from 1 without a gap, so that what a sheet has of them is their count.
-unfoldable pub brings : Run → ℕ → ℕ → ℕ → ℕ
+unfoldable pub brings : ProgramRun → ℕ → ℕ → ℕ → ℕ
 brings r d k i =
     when (nth (map plain (r .steps)) k) 0
     (λ s. cond (accepted (answerAt r k)) (when (heardBy d (at r k .sent) s) 0 (λ msg. countOf (ledgerIn (r .config) msg) i)) 0)
 
 -- what the hears of desk d among the first k steps brought, in whatever operation
-unfoldable pub brought : Run → ℕ → ℕ → ℕ → ℕ
+unfoldable pub brought : ProgramRun → ℕ → ℕ → ℕ → ℕ
 brought r d zero i = 0
 brought r d (suc k) i = max (brought r d k i) (brings r d k i)
 
 -- how many transfers step k is the first to bring
-abbrev pub firstBrought : Run → ℕ → ℕ → ℕ
+abbrev pub firstBrought : ProgramRun → ℕ → ℕ → ℕ
 firstBrought r d k = sum 16 (λ i. brings r d k i - brought r d k i)
 
 -- how many transfers a ledger has
@@ -56,12 +51,12 @@ transfersIn l = sum 16 (countOf l)
 
 -- ---- the whole
 
-abbrev pub viewOf : Run → View
+abbrev pub viewOf : ProgramRun → View
 viewOf r =
     record {
       steps = map plain (r .steps);
       answers = answerAt r;
-      gives = λ d k. resultIn (resultCall (deskAt r d k) .answer);
+      gives = λ d k. resultIn (step r (at r k) (result d) .answer);
       chosen = λ d k. chosenIn (deskAt r d k .operation);
       brings = firstBrought r;
       holds = λ d k. transfersIn (deskAt r d k .replica .ledger);

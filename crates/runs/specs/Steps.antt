@@ -4,7 +4,7 @@ use Prim.Native.Nat.{ℕ}
 use mathlib.Core.List.{List, map}
 use lib.ListN.{length}
 use Rattle.machine.specs.Parties.{Task}
-use Rattle.machine.specs.Runs.{Step as PlainStep, begin as plain-begin, ask as plain-ask, serve as plain-serve, hear as plain-hear, result as plain-result, drop as plain-drop, transfer as plain-transfer, share as plain-share, crash as plain-crash}
+use Rattle.machine.specs.Steps.{Step as PlainStep, begin as plain-begin, ask as plain-ask, serve as plain-serve, hear as plain-hear, result as plain-result, drop as plain-drop, transfer as plain-transfer, share as plain-share, crash as plain-crash}
 use Rattle.machine.specs.Typed.{Typed as TypedPlain}
 
 pub data Step : Type 0 where
