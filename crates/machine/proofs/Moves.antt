@@ -11,7 +11,7 @@ use lib.ListN.{length}
 use Rattle.config.specs.declared.cluster.Config.{Config}
 use Rattle.machine.specs.Sets.{count, quorumOf}
 use Rattle.machine.specs.Parties.{Register, Replica, join, request, share, Message, Task, valueOf, first, second, Operation, Result, running, ended, Desk, answered}
-use Rattle.machine.specs.Runs.{Answer, unmade, late, refused, done, wrote, told, Outcome, put, nth, nothing, afterServer, onServer, afterDesk, onDesk, afterCrash, onCrash, Made, take}
+use Rattle.machine.specs.Runs.{Answer, unmade, late, refused, done, wrote, told, Outcome, put, nth, nothing, afterServer, onServer, afterDesk, mostDesk, onDesk, afterCrash, onCrash, Made, take}
 use Rattle.machine.specs.Calls.{mostRound, mostValue, accept, given-away, replyTo, begun, requestOf, restarted, no-stamp, moved-on, finished, marked, dropped, knows, served}
 use Rattle.machine.specs.Steps.{Step, begin, ask, serve, hear, result, drop, transfer, share, crash, machine, askedOf, PlainState}
 use Rattle.machine.specs.Seen.{accepted}
@@ -81,7 +81,7 @@ pub record Up (c : Config) (s : PlainState) (i : ℕ) : Type 0 where
 
 pub record Seated (d : ℕ) : Type 0 where
   pub some : 1 ≤ d
-  pub most : d ≤ 65535
+  pub most : d ≤ mostDesk
 
 -- desk d hears the message at place k
 pub record Heard (s : PlainState) (st : Step) (d k : ℕ) (m : Message) (o : Operation) : Type 0 where
@@ -141,7 +141,7 @@ module _ (c : Config) (s : PlainState) where
   unfolding onDesk
   on-desk P d call no-call called =
       branch P (leb 1 d) _ _
-      (λ e. branch P (leb d 65535) _ _ (λ f. called (record { some = leb-true 1 d e; most = leb-true d 65535 f })) (λ f. no-call))
+      (λ e. branch P (leb d mostDesk) _ _ (λ f. called (record { some = leb-true 1 d e; most = leb-true d mostDesk f })) (λ f. no-call))
       (λ e. no-call)
 
   on-server : (P : PlainMade → Type 0) (i : ℕ) (call : Replica → Outcome Message Replica) → P (nothing s)

@@ -13,7 +13,7 @@ use Rattle.quorums.proofs.Tests.{le-or-lt}
 use Rattle.quorums.proofs.Sums.{below-suc}
 use Rattle.config.specs.declared.cluster.Config.{Config}
 use Rattle.machine.specs.Parties.{Register, Task, valueOf, Phase, first, second, by-phase, Operation, Result, Activity, idle, running, ended, Desk}
-use Rattle.machine.specs.Runs.{Answer, unmade, refused, done, put, nth, when, nothing, onDesk, take, at, answerAt, deskAt}
+use Rattle.machine.specs.Runs.{Answer, unmade, refused, done, put, nth, when, nothing, mostDesk, onDesk, take, at, answerAt, deskAt}
 use Rattle.machine.specs.Calls.{mostRound, mostValue, begun, beginBy, resultBy}
 use Rattle.machine.specs.Steps.{machine, Step, begin, hear, runOf, PlainState, PlainRun}
 use Rattle.machine.specs.Seen.{resultIn, chosenIn, accepted, viewOf}
@@ -188,7 +188,7 @@ module _ (c : Config) (steps : List Step) where
 
   pub ended-gives : (d k : ℕ) (x : Result) → Seated d → deskAt r d k .activity ≡ ended x → viewOf r .gives d k ≡ some x
   unfolding take onDesk resultBy
-  ended-gives d k x seated e = rw (le-leb 1 d (seated .some), le-leb d 65535 (seated .most), e) refl
+  ended-gives d k x seated e = rw (le-leb 1 d (seated .some), le-leb d mostDesk (seated .most), e) refl
 
   running-gives : (d k : ℕ) (o : Operation) → deskAt r d k .activity ≡ running o → viewOf r .gives d k ≡ none
   running-gives d k o e = gives-cases (λ z. z ≡ none) d k refl (λ y seated f. absurd (running-ended e f))

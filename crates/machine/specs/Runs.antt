@@ -86,11 +86,15 @@ onServer c s i f =
 abbrev pub afterDesk : {S D M : Type 0} → State S D M → ℕ → Outcome M D → State S D M
 afterDesk s d o = record { servers = s .servers; crashed = s .crashed; desks = put (s .desks) d (o .party); sent = s .sent ++ o .sent }
 
--- a call of desk d, unless there is none: desks have the numbers 1 to 65,535
+-- desks have the numbers 1 to 65,535
+abbrev pub mostDesk : ℕ
+mostDesk = 65535
+
+-- a call of desk d, unless there is none
 unfoldable pub onDesk : {S D M : Type 0} → State S D M → ℕ → (D → Outcome M D) → Made S D M
 onDesk s d f =
     cond (leb 1 d)
-    (cond (leb d 65535) (let o = f (s .desks d) in record { answer = o .answer; state = afterDesk s d o }) (nothing s))
+    (cond (leb d mostDesk) (let o = f (s .desks d) in record { answer = o .answer; state = afterDesk s d o }) (nothing s))
     (nothing s)
 
 -- the state after server i crashed

@@ -15,7 +15,7 @@ use Rattle.desk.specs.declared.record.Desk.{Desk}
 use Rattle.desk.specs.Operations.{noOperation}
 use Rattle.desk.specs.Desks.{numberLawful, opens, openOf as openDesk}
 use Rattle.machine.specs.Parties.{Replica, Message, bytesOf, Desk as PlainDesk, freshDesk}
-use Rattle.machine.specs.Runs.{done, Outcome, put, nth, when, Made, nothing, onServer, onDesk, onCrash, afterServer, afterDesk, afterCrash, take, opened, step, stepFrom, at, answerAt}
+use Rattle.machine.specs.Runs.{done, Outcome, put, nth, when, Made, nothing, onServer, mostDesk, onDesk, onCrash, afterServer, afterDesk, afterCrash, take, opened, step, stepFrom, at, answerAt}
 use Rattle.machine.specs.Steps.{PlainState, PlainRun}
 use Rattle.machine.specs.Clauses.{by-desk, by-message}
 use Rattle.machine.proofs.Lists.{nth-in}
@@ -120,7 +120,7 @@ module _ (c : Config) (s : PlainState) (t : ProgramState) (st : Stands c s t) wh
       → (Seated d → g (deskFor c d (s .desks d)) ≡ calledFor c (deskFor c d) (f (s .desks d)))
       → Same c (onDesk s d f) (onDesk t d g)
   unfolding onDesk
-  desk-same d f g e = by-tests (leb 1 d) (leb d 65535) refl refl
+  desk-same d f g e = by-tests (leb 1 d) (leb d mostDesk) refl refl
     where
       made : Called Desk → ProgramMade
       made o = record { answer = o .answer; state = afterDesk t d o }
@@ -128,11 +128,11 @@ module _ (c : Config) (s : PlainState) (t : ProgramState) (st : Stands c s t) wh
       plain-made : Outcome Message PlainDesk → PlainMade
       plain-made o = record { answer = o .answer; state = afterDesk s d o }
 
-      by-tests : (a b : Bool) → leb 1 d ≡ a → leb d 65535 ≡ b
+      by-tests : (a b : Bool) → leb 1 d ≡ a → leb d mostDesk ≡ b
           → Same c (cond a (cond b (plain-made (f (s .desks d))) (nothing s)) (nothing s))
           (cond a (cond b (made (g (t .desks d))) (nothing t)) (nothing t))
       by-tests true true l m =
-          let seated : Seated d = record { some = leb-true 1 d l; most = leb-true d 65535 m } in
+          let seated : Seated d = record { some = leb-true 1 d l; most = leb-true d mostDesk m } in
           subst (λ z. Same c (plain-made (f (s .desks d))) (made z))
           (sym (ap g (st .desks d seated) ∙ e seated))
           (record { answer = refl; state = after-desk d seated (f (s .desks d)) })

@@ -14,7 +14,7 @@ use Rattle.config.specs.declared.cluster.Config.{Config}
 use Rattle.config.specs.Refusals.{refusal}
 use Rattle.desk.specs.Desks.{numberLawful, accepted, refused, freshDesk, blankDesk, opens, openOf as openDesk}
 use Rattle.machine.specs.Parties.{Register, Phase, first, second, by-phase, Operation, Activity, idle, running, ended, freshDesk as plainFresh}
-use Rattle.machine.specs.Runs.{at, deskAt}
+use Rattle.machine.specs.Runs.{mostDesk, at, deskAt}
 use Rattle.machine.specs.Steps.{PlainRun}
 use Rattle.machine.specs.Seen.{resultIn, chosenIn as plainChosen, viewOf as plainView}
 use Rattle.machine.proofs.Moves.{Seated}
@@ -44,11 +44,11 @@ chosen-for c (ended y) w = refl
 
 -- a number is a desk's, or it is not
 either : (A : Type 0) (d : ℕ) → (Seated d → A) → ((Seated d → ⊥) → A) → A
-either A d f g = by-tests (leb 1 d) (leb d 65535) refl refl
+either A d f g = by-tests (leb 1 d) (leb d mostDesk) refl refl
   where
-    by-tests : (a b : Bool) → leb 1 d ≡ a → leb d 65535 ≡ b → A
-    by-tests true true e h = f (record { some = leb-true 1 d e; most = leb-true d 65535 h })
-    by-tests true false e h = g (λ s. omega (arith, s .most, leb-false d 65535 h))
+    by-tests : (a b : Bool) → leb 1 d ≡ a → leb d mostDesk ≡ b → A
+    by-tests true true e h = f (record { some = leb-true 1 d e; most = leb-true d mostDesk h })
+    by-tests true false e h = g (λ s. omega (arith, s .most, leb-false d mostDesk h))
     by-tests false b e h = g (λ s. omega (arith, s .some, leb-false 1 d e))
 
 module _ (c : Config) (valid : validOf c ≡ true) (steps : List Step) (typed : Typed steps) where

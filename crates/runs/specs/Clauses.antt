@@ -14,7 +14,7 @@ use Rattle.ledger.specs.Maps.{named, mapOf}
 use Rattle.ledger.specs.Weights.{weightOf, allOf, quorumOf}
 use Rattle.replica.specs.Envelopes.{receiveOf}
 use Rattle.machine.specs.Parties.{bytesOf}
-use Rattle.machine.specs.Runs.{nth, at, answersOf}
+use Rattle.machine.specs.Runs.{nth, mostDesk, at, answersOf}
 use Rattle.machine.specs.Steps.{machine, PlainRun, runOf as plainRunOf}
 use Rattle.machine.specs.Views.{Order, Values, Results, Restarts}
 use Rattle.runs.specs.Steps.{plain}
@@ -39,7 +39,7 @@ plainBytes r k = map (bytesOf (r .config)) (at (plainRun r) k .sent)
 -- a ledger that is held by a server or a desk, or was sent, after the first k steps
 pub data Found (r : ProgramRun) (k : ℕ) (l : Ledger) : Type 0 where
   by-server : (i : ℕ) → i < r .config .n → at r k .servers i .replica .ledger ≡ l → Found r k l
-  by-desk : (d : ℕ) → 1 ≤ d → d ≤ 65535 → at r k .desks d .replica .ledger ≡ l → Found r k l
+  by-desk : (d : ℕ) → 1 ≤ d → d ≤ mostDesk → at r k .desks d .replica .ledger ≡ l → Found r k l
   by-message : (p : ℕ) (msg : List ℕ) → nth (at r k .sent) p ≡ some msg → ledgerIn (r .config) msg ≡ l → Found r k l
 
 -- the weights total W, each is above the floor, and any n − f servers are a quorum
