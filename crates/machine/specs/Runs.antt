@@ -26,7 +26,7 @@ when (some x) y f = f x
 
 -- ---- calls
 
--- What a step gives: nothing where no call was made; "late"; a number; or accepted, with what is handed back besides the record: the place after
+-- What a step gives: nothing where no call was made; "late"; a number of paper 01's, for a refusal; or accepted, with what is handed back besides the record: the place after
 -- the message, or the result.
 pub data Answer : Type 0 where
   unmade : Answer
@@ -105,12 +105,13 @@ afterCrash s i = record { servers = s .servers; crashed = put (s .crashed) i tru
 unfoldable pub onCrash : {S D M : Type 0} → Config → State S D M → ℕ → Made S D M
 onCrash c s i = cond (ltb i (c .n)) (record { answer = done; state = afterCrash s i }) (nothing s)
 
+-- a call, of whichever party
 abbrev pub perform : {S D M : Type 0} → Config → State S D M → Call S D M → Made S D M
 perform c s (of-server i f) = onServer c s i f
 perform c s (of-desk d f) = onDesk s d f
 perform c s (crashing i) = onCrash c s i
 
--- a call takes any message already sent
+-- what a step asks for: a call takes any message already sent, as often as the list says
 unfoldable pub take : {S D M : Type 0} → Config → State S D M → Asked S D M → Made S D M
 take c s (call x) = perform c s x
 take c s (call-with k f) = when (nth (s .sent) k) (nothing s) (λ m. perform c s (f m))

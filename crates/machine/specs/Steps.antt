@@ -56,6 +56,7 @@ askedOf p c (transfer i j amount) = call (of-server i (λ r. p .transfer c i r j
 askedOf p c (share i place size) = call (of-server i (λ r. p .share c i r place size))
 askedOf p c (crash i) = call (crashing i)
 
+-- servers hold a replica here, and messages are fields
 abbrev pub PlainState : Type 0
 PlainState = State Replica Desk Message
 

@@ -25,12 +25,14 @@ asked (transfer i j amount) = call (of-server i (λ x. transferCall x j amount))
 asked (share i place out) = call (of-server i (λ x. shareCall x place out))
 asked (crash i) = call (crashing i)
 
+-- servers and desks are records here, and messages are bytes
 abbrev pub ProgramState : Type 0
 ProgramState = State Server Desk (List ℕ)
 
 abbrev pub ProgramRun : Type 0
 ProgramRun = Run Server Desk (List ℕ) Step
 
+-- the run of the program: every record is as `open` hands it out
 abbrev pub runOf : Config → List Step → ProgramRun
 runOf c steps =
     record {
