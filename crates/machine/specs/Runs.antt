@@ -26,8 +26,8 @@ when (some x) y f = f x
 
 -- ---- calls
 
--- What a step gives: nothing where no call was made; "late"; a number of paper 01's, for a refusal; or accepted, with what is handed back besides the record: the place after
--- the message, or the result.
+-- What a step gives: nothing where no call was made; "late"; for a refusal its number (paper 01, "Numbers handed out"); or accepted, with what is
+-- handed back besides the record: the place after the message, or the result.
 pub data Answer : Type 0 where
   unmade : Answer
   late : Answer
