@@ -12,6 +12,8 @@ pub mod Outcomes
 pub mod Histories
 pub mod Moves
 pub mod Desks
+-- The structure of a run.
+pub mod Structure
 -- Tags and sets; weights on closed sets; question four.
 pub mod Tags
 pub mod Sets
