@@ -46,6 +46,14 @@ pub record DeskMade {S D M T : Type 0} (r : Run S D M T) (k d : ℕ) (o : Outcom
   pub desks : ChangedAt (at r k .desks) d (o .party) (at r (suc k) .desks)
   pub sent : at r (suc k) .sent ≡ at r k .sent ++ o .sent
 
+-- step k crashes server i: its mark is set, and nothing else changes
+pub record CrashMade {S D M T : Type 0} (r : Run S D M T) (k i : ℕ) : Type 0 where
+  pub answer : answerAt r k ≡ done
+  pub servers : at r (suc k) .servers ≡ at r k .servers
+  pub crashed : ChangedAt (at r k .crashed) i true (at r (suc k) .crashed)
+  pub desks : at r (suc k) .desks ≡ at r k .desks
+  pub sent : at r (suc k) .sent ≡ at r k .sent
+
 -- step k makes no call
 pub record Unmade {S D M T : Type 0} (r : Run S D M T) (k : ℕ) : Type 0 where
   pub answer : answerAt r k ≡ unmade
@@ -63,9 +71,11 @@ pub record Structure {S D M T : Type 0} (r : Run S D M T) : Type 0 where
   pub server-made : (k i : ℕ) (f : S → Outcome M S) → Calls r k (of-server i f) → i < r .config .n → at r k .crashed i ≡ false
       → ServerMade r k i (f (at r k .servers i))
   pub desk-made : (k d : ℕ) (f : D → Outcome M D) → Calls r k (of-desk d f) → 1 ≤ d → d ≤ 65535 → DeskMade r k d (f (at r k .desks d))
+  pub crash-made : (k i : ℕ) → Calls r k (crashing i) → i < r .config .n → CrashMade r k i
   -- and who does not
   pub no-server : (k i : ℕ) (f : S → Outcome M S) → Calls r k (of-server i f) → (r .config .n ≤ i) ⊎ (at r k .crashed i ≡ true) → Unmade r k
   pub no-desk : (k d : ℕ) (f : D → Outcome M D) → Calls r k (of-desk d f) → (d ≡ 0) ⊎ (65535 < d) → Unmade r k
+  pub no-crash : (k i : ℕ) → Calls r k (crashing i) → r .config .n ≤ i → Unmade r k
   pub no-message : (k : ℕ) (x : T) (p : ℕ) (f : M → Call S D M) → nth (r .steps) k ≡ some x → r .asks x ≡ call-with p f → nth (at r k .sent) p ≡ none
       → Unmade r k
   -- a server has crashed at place k exactly when a step before crashed it
@@ -138,6 +148,22 @@ module _ {S D M T : Type 0} (r : Run S D M T) (k : ℕ) where
   no-desk d f y (inr past) =
       unmade-by (performs (of-desk d f) y ∙ branch (λ z. z ≡ nothing s) (leb 1 d) _ _ (λ e. rw (lt-leb d 65535 past) refl) (λ e. refl))
 
+  crash-made : (i : ℕ) → Calls r k (crashing i) → i < c .n → CrashMade r k i
+  unfolding onCrash
+  crash-made i y below =
+      let b = becomes (record { answer = done; state = afterCrash s i }) (performs (crashing i) y ∙ rw (lt-ltb i (c .n) below) refl) in
+      record {
+        answer = b .0;
+        servers = ap (λ z. z .servers) (b .1);
+        crashed = subst (λ z. ChangedAt (s .crashed) i true (z .crashed)) (sym (b .1)) (changed-put (s .crashed) i true);
+        desks = ap (λ z. z .desks) (b .1);
+        sent = ap (λ z. z .sent) (b .1);
+      }
+
+  no-crash : (i : ℕ) → Calls r k (crashing i) → c .n ≤ i → Unmade r k
+  unfolding onCrash
+  no-crash i y above = unmade-by (performs (crashing i) y ∙ rw (le-ltb i (c .n) above) refl)
+
   no-message : (x : T) (p : ℕ) (f : M → Call S D M) → nth (r .steps) k ≡ some x → r .asks x ≡ call-with p f → nth (s .sent) p ≡ none → Unmade r k
   unfolding take
   no-message x p f e q unsent =
@@ -187,13 +213,6 @@ module _ {S D M T : Type 0} (r : Run S D M T) (k : ℕ) where
       (λ a. put-cases (λ b. b ≡ true) (s .crashed) j true i (λ is. refl) (λ ne. e))
       (λ a. e)
 
-  -- a crash sets it
-  sets : (i : ℕ) → Calls r k (crashing i) → i < c .n → at r (suc k) .crashed i ≡ true
-  unfolding onCrash
-  sets i y below =
-      let b = becomes (record { answer = done; state = afterCrash s i }) (performs (crashing i) y ∙ rw (lt-ltb i (c .n) below) refl) in
-      subst (λ z. z .crashed i ≡ true) (sym (b .1)) (changed-put (s .crashed) i true .here)
-
   -- what every call that step k can ask for leaves is left by the step; one that makes no call leaves what was there
   after : (P : State S D M → Type 0) → P s → ((y : Call S D M) → Calls r k y → P (perform c s y .state)) → P (at r (suc k))
   unfolding at take
@@ -242,9 +261,11 @@ module _ {S D M T : Type 0} (r : Run S D M T) where
       record {
         server-made = server-made r;
         desk-made = desk-made r;
+        crash-made = crash-made r;
         no-server = no-server r;
         no-desk = no-desk r;
+        no-crash = no-crash r;
         no-message = no-message r;
         crashed-by = crashed-by;
-        by-crashed = λ k i h. stays i (h .place) k (sets r (h .place) i (h .step) (h .below)) (h .earlier);
+        by-crashed = λ k i h. stays i (h .place) k (crash-made r (h .place) i (h .step) (h .below) .crashed .here) (h .earlier);
       }
