@@ -24,9 +24,9 @@ pub mod QuestionFour
 -- Operations: where they begin and end, their phases, results and restarts; where each register comes from, and values.
 pub mod Performed
 pub mod Phases
+pub mod Registers
 pub mod Results
 pub mod Restarts
-pub mod Registers
 pub mod Traces
 pub mod Values
 -- The invariant, and that every step keeps it.
@@ -44,9 +44,12 @@ pub mod SetRanges
 pub mod Clashes
 pub mod WorkRanges
 pub mod Ranges
--- The published rule, the order of tags, and all clauses together.
+-- The published rule, the order of tags, and all clauses together; what follows from them.
 pub mod Rule
 pub mod Following
 pub mod Later
 pub mod Order
 pub mod Whole
+pub mod Linear
+-- Concrete lists.
+pub mod Concrete

@@ -4,19 +4,19 @@ use Prim.Native.Nat.{ℕ, zero, suc, _≤_, _<_}
 use native.Mathlib.Omega.{arith}
 use mathlib.Core.Path.{_≡_, refl, sym, ap, _∙_, subst}
 use mathlib.Core.Logic.{_⊎_, inl, inr, ⊎-elim}
-use mathlib.Core.Bool.{false, false≢true}
+use mathlib.Core.Bool.{Bool, true, false, false≢true}
 use mathlib.Core.List.{List}
-use mathlib.Core.Option.{Option, none, some, Option·none-ne-some, Option·some-injective}
+use mathlib.Core.Option.{none, some, Option·none-ne-some, Option·some-injective}
 use borrow.Author.Tests.{le-leb}
 use lib.ListN.{length}
 use Rattle.quorums.proofs.Tests.{le-or-lt}
 use Rattle.quorums.proofs.Sums.{below-suc}
 use Rattle.config.specs.declared.cluster.Config.{Config}
 use Rattle.machine.specs.Parties.{Register, Task, valueOf, Phase, first, second, by-phase, Operation, Result, Activity, idle, running, ended, Desk}
-use Rattle.machine.specs.Runs.{Answer, unmade, refused, done, put, nth, when, nothing, mostDesk, onDesk, take, at, answerAt, deskAt}
+use Rattle.machine.specs.Runs.{Answer, unmade, late, refused, done, wrote, told, put, nth, when, nothing, mostDesk, onDesk, take, at, answerAt, deskAt}
 use Rattle.machine.specs.Calls.{mostRound, mostValue, begun, beginBy, resultBy}
 use Rattle.machine.specs.Steps.{machine, Step, begin, hear, runOf, PlainState, PlainRun}
-use Rattle.machine.specs.Seen.{resultIn, chosenIn, accepted, viewOf}
+use Rattle.machine.specs.Seen.{chosenIn, accepted, viewOf}
 use Rattle.machine.specs.Views.{View, Begins, Current, Ends}
 use Rattle.machine.proofs.Places.{from-on}
 use Rattle.machine.proofs.Branches.{Resting}
@@ -80,6 +80,23 @@ during {v} {d} {i} {t} P p k l m h step start =
     k
     m
     h
+
+-- ---- results told
+
+-- whether an answer tells a result
+abbrev pub telling : Answer → Bool
+telling unmade = false
+telling late = false
+telling (refused k) = false
+telling done = false
+telling (wrote k) = false
+telling (told x) = true
+
+pub tells-nothing : (a : Answer) → telling a ≡ false → (x : Result) → a ≡ told x → ⊥
+tells-nothing a e x f = false≢true (sym e ∙ ap telling f)
+
+told-is : {x y : Result} → told x ≡ told y → x ≡ y
+told-is e = cc
 
 -- ---- a begin of the machine
 
@@ -173,25 +190,23 @@ module _ (c : Config) (steps : List Step) where
   pub unmoved : (d k : ℕ) → deskAt r d k ≡ deskAt r d (suc k) → NoBegin (viewOf r) d k
   unmoved d k e u b = let f = begins-is d k u b in subst Resting (ap (λ y. y .activity) (e ∙ f .after)) (f .rests)
 
-  -- What a result call gives is the result of an operation that has ended, of a desk that there is.
-  gives-cases : (P : Option Result → Type 0) (d k : ℕ) → P none → ((y : Result) → Seated d → deskAt r d k .activity ≡ ended y → P (some y))
-      → P (viewOf r .gives d k)
+  -- What a result call tells is the result of an operation that has ended, of a desk that there is.
+  pub gives-ended : (d k : ℕ) (x : Result) → viewOf r .gives d k ≡ told x → Seated d × (deskAt r d k .activity ≡ ended x)
   unfolding take
-  gives-cases P d k no-result given =
-      on-desk c (at r k) (λ z. P (resultIn (z .answer))) d resultBy no-result
-      (λ seated. result-cases (λ o. P (resultIn (o .answer))) (deskAt r d k) (λ n. no-result) (λ y. given y seated))
-
-  pub gives-ended : (d k : ℕ) (x : Result) → viewOf r .gives d k ≡ some x → Seated d × (deskAt r d k .activity ≡ ended x)
   gives-ended d k x =
-      gives-cases (λ z. z ≡ some x → Seated d × (deskAt r d k .activity ≡ ended x)) d k (λ e. absurd (Option·none-ne-some x e))
-      (λ y seated f e. (seated, f ∙ ap ended (Option·some-injective y x e)))
+      on-desk c (at r k) (λ z. z .answer ≡ told x → Seated d × (deskAt r d k .activity ≡ ended x)) d resultBy
+      (λ e. absurd (tells-nothing unmade refl x e))
+      (λ seated.
+      result-cases (λ o. o .answer ≡ told x → Seated d × (deskAt r d k .activity ≡ ended x)) (deskAt r d k)
+      (λ n e. absurd (tells-nothing (refused n) refl x e))
+      (λ y f e. (seated, f ∙ ap ended (told-is e))))
 
-  pub ended-gives : (d k : ℕ) (x : Result) → Seated d → deskAt r d k .activity ≡ ended x → viewOf r .gives d k ≡ some x
+  pub ended-gives : (d k : ℕ) (x : Result) → Seated d → deskAt r d k .activity ≡ ended x → viewOf r .gives d k ≡ told x
   unfolding take onDesk resultBy
   ended-gives d k x seated e = rw (le-leb 1 d (seated .some), le-leb d mostDesk (seated .most), e) refl
 
-  running-gives : (d k : ℕ) (o : Operation) → deskAt r d k .activity ≡ running o → viewOf r .gives d k ≡ none
-  running-gives d k o e = gives-cases (λ z. z ≡ none) d k refl (λ y seated f. absurd (running-ended e f))
+  running-gives : (d k : ℕ) (o : Operation) → deskAt r d k .activity ≡ running o → (y : Result) → viewOf r .gives d k ≡ told y → ⊥
+  running-gives d k o e y f = running-ended e (gives-ended d k y f .1)
 
   module _ (d k : ℕ) where
     origin-next : (a : Activity) → NoBegin (viewOf r) d k → Origin r d k a → Origin r d (suc k) a

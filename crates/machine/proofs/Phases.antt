@@ -4,7 +4,6 @@ use native.Mathlib.Omega.{arith}
 use mathlib.Core.Path.{_≡_, refl, sym, ap, _∙_, subst}
 use mathlib.Core.Logic.{⊎-elim}
 use mathlib.Core.Bool.{true}
-use mathlib.Core.Option.{Option·none-ne-some}
 use mathlib.Core.List.{List, _∷_}
 use Rattle.quorums.proofs.Tests.{le-or-lt}
 use Rattle.config.specs.declared.cluster.Config.{Config}
@@ -91,7 +90,7 @@ module _ (c : Config) (steps : List Step) where
   ends-finish {d} {i} {k} {t} {x} h =
       desk-moved c steps d k (λ a y. y .activity ≡ ended x → Finish r d k t x)
       (record {
-        still = λ e. absurd (Option·none-ne-some x (sym (h .before) ∙ ended-gives c steps d k x (after .0) e));
+        still = λ e. absurd (h .before x (ended-gives c steps d k x (after .0) e));
         begins = λ u note b l rests room e. absurd (running-ended refl e);
         drops = λ o f e. absurd (idle-ended e);
         restarts = λ p m o f i room e. absurd (running-ended refl e);

@@ -84,9 +84,9 @@ module _ (c : Config) (steps : List Step) (typed : Typed steps) where
       let range : OperationRange c (at r (w .chose .place) .sent) (w .desk) (deskAt r (w .desk) (w .chose .place) .round) o =
       subst (ActivityRange c (at r (w .chose .place) .sent) (w .desk) (deskAt r (w .desk) (w .chose .place) .round)) (two .runs)
       (kept c steps typed (w .chose .place) .desks (w .desk) .activity) in
-      let value : valueOf (o .task) ≡ g .value = ap valueOf task ∙ sym (own .1) in
+      let value : valueOf (o .task) ≡ g .value = ap valueOf task ∙ sym (own .2) in
       record {
-        tag = inr (own .2, range .stamp (w .bytes) g task (two .phase-two), subst Seated (sym (own .0)) (range .seated));
+        tag = inr (own .1, range .stamp (w .bytes) g task (two .phase-two), subst Seated (sym (own .0)) (range .seated));
         short = subst (λ v. length v ≤ mostValue) value (range .short);
         bytes = subst Bytes value (range .bytes);
       }

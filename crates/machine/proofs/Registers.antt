@@ -132,11 +132,11 @@ module _ (c : Config) (steps : List Step) where
   -- ---- writes
 
   -- a write's register has its desk's number and its bytes, and is no start
-  pub write-own : (d i : ℕ) (v : List ℕ) (g : Register) → Chose (viewOf r) d i (write v) g → (g .desk ≡ d) × (g .value ≡ v) × (1 ≤ g .stamp)
+  pub write-own : (d i : ℕ) (v : List ℕ) (g : Register) → Chose (viewOf r) d i (write v) g → (g .desk ≡ d) × (1 ≤ g .stamp) × (g .value ≡ v)
   write-own d i v g h =
       let p = chose-picked d i (write v) g h in
       let s : g .stamp ≡ suc (p .held .stamp) = ap (λ y. y .stamp) (p .is) in
-      (ap (λ y. y .desk) (p .is), ap (λ y. y .value) (p .is), omega arith)
+      (ap (λ y. y .desk) (p .is), omega arith, ap (λ y. y .value) (p .is))
 
   -- a write's tag is above that of every operation that its desk began before
   pub writes-rise : (d i j : ℕ) (t : Task) (v : List ℕ) (g h : Register) → i < j → Chose (viewOf r) d i t g → Chose (viewOf r) d j (write v) h → below g h ≡ true

@@ -5,7 +5,7 @@ use native.Mathlib.Omega.{arith}
 use mathlib.Core.Path.{_≡_, refl, sym, ap, _∙_, subst}
 use mathlib.Core.Bool.{Bool, true, false, cond, false≢true}
 use mathlib.Core.List.{List}
-use mathlib.Core.Option.{none, some, Option·none-ne-some}
+use mathlib.Core.Option.{some}
 use borrow.Author.Tests.{lt-ltb, le-ltb}
 use lib.Dec.{ltb}
 use lib.ListN.{length, length-append}
@@ -18,13 +18,13 @@ use Rattle.machine.specs.Sets.{Transfer, Transfers, has, includes, missi
 use Rattle.machine.specs.Parties.{Message, join, Task, Operation, Result, Activity, idle, running, ended, Desk}
 use Rattle.machine.specs.Runs.{Answer, unmade, done, wrote, told, nth, at, answerAt, deskAt}
 use Rattle.machine.specs.Steps.{Step, result, runOf, PlainRun, machine}
-use Rattle.machine.specs.Seen.{resultIn, accepted, brings, brought, firstBrought, viewOf}
+use Rattle.machine.specs.Seen.{accepted, brings, brought, firstBrought, viewOf}
 use Rattle.machine.specs.Views.{Current, Ends, restartsMade, gain, Told, Restarts}
 use Rattle.machine.proofs.Branches.{when-cases}
 use Rattle.machine.proofs.Sets.{has-append, has-union, missing-none, missing-some, missing-same}
 use Rattle.machine.proofs.Moves.{PlainMade, moved}
 use Rattle.machine.proofs.Desks.{desk-moved}
-use Rattle.machine.proofs.Performed.{NoBegin, current-earlier, current-ended, during, begins-is, gives-ended, ended-origin}
+use Rattle.machine.proofs.Performed.{NoBegin, telling, tells-nothing, current-earlier, current-ended, during, begins-is, gives-ended, ended-origin}
 
 -- ---- how a reply counts: 1 where it has a transfer that the desk's set lacks
 
@@ -226,8 +226,8 @@ module _ (c : Config) (steps : List Step) where
             earlier = from .earlier;
           }
 
-      apart : (a : Answer) → resultIn a ≡ none → a ≡ told x → Told (viewOf r) q x
-      apart a e f = absurd (Option·none-ne-some x (sym e ∙ ap resultIn f))
+      apart : (a : Answer) → telling a ≡ false → a ≡ told x → Told (viewOf r) q x
+      apart a e f = absurd (tells-nothing a e x f)
 
 pub restarts : (c : Config) (steps : List Step) → Restarts (viewOf (runOf machine c steps))
 restarts c steps = record { reported = reported c steps; made = made c steps; gained = gained c steps; growth = growth c steps }

@@ -1,14 +1,15 @@
 -- What an operation that ended tells: its kind and its own tag. Where it ends it is in phase 2 with the register of its result, and an operation
--- chooses once.
+-- chooses once; a write's tag is its own.
 use Prim.Native.Nat.{ℕ}
 use mathlib.Core.List.{List}
 use Rattle.config.specs.declared.cluster.Config.{Config}
 use Rattle.machine.specs.Parties.{Task, Result}
 use Rattle.machine.specs.Steps.{Step, runOf, machine}
 use Rattle.machine.specs.Seen.{viewOf}
-use Rattle.machine.specs.Views.{Ends, Chose, Results}
+use Rattle.machine.specs.Views.{Ends, Chose, Results, Tags}
 use Rattle.machine.proofs.Phases.{chose-unique, ends-finish}
 use Rattle.machine.proofs.Performed.{runs-chosen}
+use Rattle.machine.proofs.Registers.{write-own}
 
 module _ (c : Config) (steps : List Step) where
   pub ends-chose : {d i k : ℕ} {t : Task} {x : Result} → Ends (viewOf (runOf machine c steps)) d i t k x → Chose (viewOf (runOf machine c steps)) d i t (x .register)
@@ -27,3 +28,6 @@ module _ (c : Config) (steps : List Step) where
         chose = λ d i k t x h. ends-chose h;
         tag = λ d i k t x g h a. chose-unique c steps a (ends-chose h);
       }
+
+  pub tags : Tags (viewOf (runOf machine c steps))
+  tags = record { own = write-own c steps; once = λ d i t g h a b. chose-unique c steps a b }

@@ -15,10 +15,10 @@ use Rattle.machine.proofs.Branches.{branch}
 
 -- ---- the order, in numbers
 
-abbrev Lower : Register → Register → Type 0
+abbrev pub Lower : Register → Register → Type 0
 Lower a b = (a .stamp < b .stamp) ⊎ ((a .stamp ≡ b .stamp) × (a .desk < b .desk))
 
-below-lower : (a b : Register) → below a b ≡ true → Lower a b
+pub below-lower : (a b : Register) → below a b ≡ true → Lower a b
 unfolding below
 below-lower a b e = by-stamp (ltb (a .stamp) (b .stamp)) refl e
   where
@@ -30,7 +30,7 @@ below-lower a b e = by-stamp (ltb (a .stamp) (b .stamp)) refl e
     by-stamp true f g = inl (ltb-true (a .stamp) (b .stamp) f)
     by-stamp false f g = by-desk (eqb (a .stamp) (b .stamp)) refl g
 
-lower-below : (a b : Register) → Lower a b → below a b ≡ true
+pub lower-below : (a b : Register) → Lower a b → below a b ≡ true
 unfolding below
 lower-below a b l =
     ⊎-elim (λ (s : a .stamp < b .stamp). rw (lt-ltb (a .stamp) (b .stamp) s))

@@ -29,13 +29,13 @@ module _ (c : Config) (steps : List Step) where
 
   -- the value of a register that a write chose are the bytes given to its begin
   written-value : (g : Register) (w : Written r g) → g .value ≡ w .bytes
-  written-value g w = write-own c steps (w .desk) (w .begun) (w .bytes) g (w .chose) .1
+  written-value g w = write-own c steps (w .desk) (w .begun) (w .bytes) g (w .chose) .2
 
   -- ---- one tag, one register
 
   write-above-start : (g h : Register) → g ≡ start → Written r h → SameTag g h → ⊥
   write-above-start g h e w s =
-      let positive : 1 ≤ h .stamp = write-own c steps (w .desk) (w .begun) (w .bytes) h (w .chose) .2 in
+      let positive : 1 ≤ h .stamp = write-own c steps (w .desk) (w .begun) (w .bytes) h (w .chose) .1 in
       let z : g .stamp ≡ 0 = ap (λ y. y .stamp) e in
       omega (arith, s .0)
 

@@ -8,7 +8,7 @@ use Rattle.machine.specs.Steps.{Step, runOf, machine}
 use Rattle.machine.specs.Clauses.{Clauses}
 use Rattle.machine.proofs.Order.{order}
 use Rattle.machine.proofs.Values.{values}
-use Rattle.machine.proofs.Results.{results}
+use Rattle.machine.proofs.Results.{results, tags}
 use Rattle.machine.proofs.Restarts.{restarts}
 use Rattle.machine.proofs.Sheets.{sheets}
 
@@ -18,6 +18,7 @@ clauses c valid steps =
       order = order c valid steps;
       values = values c steps;
       results = results c steps;
+      tags = tags c steps;
       restarts = restarts c steps;
       sheets = sheets c valid steps;
     }

@@ -12,7 +12,7 @@ use Rattle.machine.specs.Sets.{Transfers, accounts, weightOf, quorumOf}
 use Rattle.machine.specs.Parties.{Message}
 use Rattle.machine.specs.Runs.{nth, at}
 use Rattle.machine.specs.Steps.{PlainRun}
-use Rattle.machine.specs.Views.{Order, Values, Results, Restarts}
+use Rattle.machine.specs.Views.{Order, Values, Results, Tags, Restarts}
 use Rattle.machine.specs.Seen.{viewOf}
 
 -- ---- sheets
@@ -40,5 +40,6 @@ pub record Clauses (r : PlainRun) : Type 0 where
   pub order : Order (viewOf r)
   pub values : Values (viewOf r)
   pub results : Results (viewOf r)
+  pub tags : Tags (viewOf r)
   pub restarts : Restarts (viewOf r)
   pub sheets : Sheets r

@@ -1,5 +1,5 @@
 -- Definitions, in reading order: sets of transfers, what the parties hold, the structure of a run; the plain machine's calls and steps; what the clauses
--- of demand 3 look at, and the clauses; what is seen of a run; the sheets; and the arguments that a call can have.
+-- of demand 3 look at, and the clauses; what is seen of a run; the sheets; the arguments that a call can have; and linearizability.
 pub mod Sets
 pub mod Parties
 pub mod Runs
@@ -9,3 +9,4 @@ pub mod Views
 pub mod Seen
 pub mod Clauses
 pub mod Typed
+pub mod Linear

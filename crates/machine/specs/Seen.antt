@@ -6,25 +6,14 @@ use mathlib.Core.Option.{Option, none, some}
 use lib.Dec.{eqb}
 use lib.ListN.{length}
 use Rattle.machine.specs.Sets.{Transfers, missing}
-use Rattle.machine.specs.Parties.{Register, by-phase, Activity, idle, running, ended, Result}
+use Rattle.machine.specs.Parties.{Register, by-phase, Activity, if-running}
 use Rattle.machine.specs.Runs.{nth, when, Answer, unmade, late, refused, done, wrote, told, step, at, answerAt, deskAt}
 use Rattle.machine.specs.Steps.{Step, begin, ask, serve, hear, result, drop, transfer, share, crash, PlainRun}
 use Rattle.machine.specs.Views.{View}
 
--- the result that an answer tells
-abbrev pub resultIn : Answer → Option Result
-resultIn unmade = none
-resultIn late = none
-resultIn (refused k) = none
-resultIn done = none
-resultIn (wrote k) = none
-resultIn (told x) = some x
-
 -- the register that phase 1 chose, of an operation in phase 2
 abbrev pub chosenIn : Activity → Option Register
-chosenIn idle = none
-chosenIn (running o) = by-phase (o .phase) none (λ g. some g)
-chosenIn (ended y) = none
+chosenIn a = if-running a (λ o. by-phase (o .phase) none (λ g. some g)) none
 
 -- ---- what hears bring
 
@@ -71,7 +60,7 @@ viewOf r =
     record {
       steps = r .steps;
       answers = answerAt r;
-      gives = λ d k. resultIn (step r (at r k) (result d) .answer);
+      gives = λ d k. step r (at r k) (result d) .answer;
       chosen = λ d k. chosenIn (deskAt r d k .activity);
       brings = λ d k. length (firstBrought r d k);
       holds = λ d k. length (deskAt r d k .replica .set);

@@ -5,7 +5,7 @@ use mathlib.Core.Path.{_≡_}
 use mathlib.Core.Logic.{_⊎_}
 use mathlib.Core.Bool.{true, false, cond}
 use mathlib.Core.List.{List, []}
-use mathlib.Core.Option.{Option, none, some}
+use mathlib.Core.Option.{Option, some}
 use lib.Dec.{ltb}
 use Rattle.quorums.specs.Sum.{sum}
 use Rattle.format.specs.Bytes.{stands}
@@ -17,8 +17,8 @@ pub record View : Type 0 where
   pub steps : List Step
   -- what step k answers
   pub answers : ℕ → Answer
-  -- what a result call of desk d would give after the first k steps
-  pub gives : ℕ → ℕ → Option Result
+  -- what a result call of desk d would answer after the first k steps
+  pub gives : ℕ → ℕ → Answer
   -- what phase 1 chose, where the operation of desk d is in phase 2 after the first k steps
   pub chosen : ℕ → ℕ → Option Register
   -- how many transfers step k is the first to bring to desk d, of all the hears of that desk, in whatever operation, that were neither refused nor late
@@ -42,13 +42,14 @@ pub record Current (v : View) (d i : ℕ) (t : Task) (k : ℕ) : Type 0 where
   pub earlier : i < k
   pub last : (p : ℕ) (u : Task) → i < p → p < k → Begins v d p u → ⊥
 
--- The operation of desk d from place i ends at place k with the result x: step k is the hear after which a result call would give it.
+-- The operation of desk d from place i ends at place k with the result x: step k is the hear before which a result call would tell nothing, and after
+-- which it would tell x.
 pub record Ends (v : View) (d i : ℕ) (t : Task) (k : ℕ) (x : Result) : Type 0 where
   pub current : Current v d i t k
   pub message : ℕ
   pub step : nth (v .steps) k ≡ some (hear d message)
-  pub before : v .gives d k ≡ none
-  pub after : v .gives d (suc k) ≡ some x
+  pub before : (y : Result) → v .gives d k ≡ told y → ⊥
+  pub after : v .gives d (suc k) ≡ told x
 
 -- The operation of desk d from place i chose the register g in phase 1: at some place it is in phase 2 with g. Its tag is that of g.
 pub record Chose (v : View) (d i : ℕ) (t : Task) (g : Register) : Type 0 where
@@ -103,13 +104,19 @@ pub record Values (v : View) : Type 0 where
   pub source : (d i : ℕ) (g : Register) → Chose v d i read g → Source v g (g .value)
   pub returned : (d i k : ℕ) (x : Result) → Ends v d i read k x → Source v (x .register) (x .register .value)
 
--- ---- results and restarts
+-- ---- results, tags and restarts
 
 -- what an operation that ended tells: its kind and its own tag
 pub record Results (v : View) : Type 0 where
   pub kind : (d i k : ℕ) (t : Task) (x : Result) → Ends v d i t k x → x .is-write ≡ writes t
   pub chose : (d i k : ℕ) (t : Task) (x : Result) → Ends v d i t k x → Chose v d i t (x .register)
   pub tag : (d i k : ℕ) (t : Task) (x : Result) (g : Register) → Ends v d i t k x → Chose v d i t g → g ≡ x .register
+
+-- A write's tag is its own: it has its desk's number, a stamp of at least 1, and the bytes given to its begin; and an operation, ended or not, chooses
+-- once.
+pub record Tags (v : View) : Type 0 where
+  pub own : (d i : ℕ) (w : List ℕ) (g : Register) → Chose v d i (write w) g → (g .desk ≡ d) × (1 ≤ g .stamp) × (g .value ≡ w)
+  pub once : (d i : ℕ) (t : Task) (g h : Register) → Chose v d i t g → Chose v d i t h → g ≡ h
 
 -- the operation whose result desk d tells at place q
 pub record Told (v : View) (q : ℕ) (x : Result) : Type 0 where

@@ -11,7 +11,7 @@ use Rattle.machine.proofs.Computing.{computing}
 use Rattle.nearmiss.specs.Steps.{runBy, room, trip, sale, sold, returned, written}
 use Rattle.nearmiss.specs.Parts.{hearWith, markWith}
 use Rattle.nearmiss.specs.CountedTwice.{weightHeard, enoughReplies, countedTwice}
-use Rattle.nearmiss.proofs.Computing.{ends-of, chose-of}
+use Rattle.machine.proofs.Concrete.{ends-of, chose-of}
 use Rattle.nearmiss.proofs.Refuting.{lower-tag}
 
 -- n = 3, f = 1. Desk 1 writes (places 0 to 8), asks for its result (9), and desk 2 reads (10 to 22).

@@ -14,7 +14,7 @@ use Rattle.machine.proofs.Computing.{computing}
 use Rattle.nearmiss.specs.Steps.{runBy, trip, sale, sold, returned, written}
 use Rattle.nearmiss.specs.Parts.{hearWith, markWith}
 use Rattle.nearmiss.specs.FixedTag.{chooseFixed, fixedTag}
-use Rattle.nearmiss.proofs.Computing.{ends-of, chose-of}
+use Rattle.machine.proofs.Concrete.{ends-of, chose-of}
 use Rattle.nearmiss.proofs.Refuting.{not-higher}
 
 -- all sixteen seats

@@ -8,7 +8,7 @@ use Rattle.machine.specs.Views.{Ends, restartsMade, Restarts}
 use Rattle.machine.proofs.Computing.{computing}
 use Rattle.nearmiss.specs.Steps.{runBy, sale, sold, written}
 use Rattle.nearmiss.specs.NoRestarts.{resultWithout, noRestarts}
-use Rattle.nearmiss.proofs.Computing.{ends-of}
+use Rattle.machine.proofs.Concrete.{ends-of}
 use Rattle.nearmiss.proofs.Shown.{twoRestarts}
 
 abbrev pub theirs : PlainRun

@@ -20,7 +20,8 @@ use Rattle.machine.proofs.Computing.{computing}
 use Rattle.nearmiss.specs.Steps.{runBy, room, trip, passOn, readAfter, sale, sold, returned, written, answersFrom, answers}
 use Rattle.nearmiss.specs.Parts.{hearWith}
 use Rattle.nearmiss.specs.OtherSheet.{countOther, otherSheet}
-use Rattle.nearmiss.proofs.Computing.{ends-of, chose-of, never-ends}
+use Rattle.machine.proofs.Concrete.{ends-of, chose-of}
+use Rattle.nearmiss.proofs.Computing.{never-ends}
 use Rattle.nearmiss.proofs.Refuting.{lower-tag}
 
 -- desk 1 asks servers 0, 1 and 3, each replies, and it hears the three replies; m messages were sent before

@@ -10,7 +10,7 @@ use Rattle.machine.specs.Views.{Ends, Chose, Order}
 use Rattle.machine.proofs.Computing.{computing}
 use Rattle.nearmiss.specs.Steps.{runBy, trip, passOn, readAfter, sale, sold, returned, written}
 use Rattle.nearmiss.specs.SheetAlone.{serveSheet, sheetAlone}
-use Rattle.nearmiss.proofs.Computing.{ends-of, chose-of}
+use Rattle.machine.proofs.Concrete.{ends-of, chose-of}
 use Rattle.nearmiss.proofs.Refuting.{lower-tag}
 
 -- n = 5, f = 1. Desk 1 writes (places 0 to 18), weight moves (19 to 24), desk 2 reads (25 to 41).

@@ -14,7 +14,8 @@ use Rattle.machine.specs.Seen.{viewOf}
 use Rattle.machine.specs.Views.{Ends, Chose, restartsMade, gain}
 use Rattle.machine.proofs.Computing.{computing}
 use Rattle.nearmiss.specs.Steps.{runBy, room, trip, sale, sold, returned, written}
-use Rattle.nearmiss.proofs.Computing.{ends-of, chose-of, never-ends}
+use Rattle.machine.proofs.Concrete.{ends-of, chose-of}
+use Rattle.nearmiss.proofs.Computing.{never-ends}
 
 -- ---- a read returns what was written before it, across a transfer of weight
 
