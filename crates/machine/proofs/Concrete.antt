@@ -1,19 +1,21 @@
--- Concrete lists: what `Ends`, `Chose` and `Current` say of every place of a list is brought down to tests that compute.
-use Prim.Native.Nat.{ℕ, suc, _<_}
+-- Concrete lists: what `Ends`, `Chose`, `Current` and `Typed` say of every place of a list is brought down to tests that compute.
+use Prim.Native.Nat.{ℕ, zero, suc, _<_, _^_}
 use native.Mathlib.Omega.{arith}
-use mathlib.Core.Path.{_≡_, refl}
+use mathlib.Core.Path.{_≡_, refl, subst}
 use mathlib.Core.Bool.{Bool, true, false, cond, not}
-use mathlib.Core.List.{List}
-use mathlib.Core.Option.{some}
-use borrow.Author.Tests.{ltb-true, lt-ltb, eq-eqb}
-use lib.Dec.{eqb, ltb}
+use mathlib.Core.List.{List, [], _∷_}
+use mathlib.Core.Option.{some, Option·none-ne-some, Option·some-injective}
+use borrow.Author.Tests.{leb-true, ltb-true, lt-ltb, eq-eqb}
+use lib.Dec.{eqb, leb, ltb}
 use Rattle.quorums.specs.Sum.{all}
 use Rattle.quorums.proofs.Sums.{all-each}
-use Rattle.machine.specs.Parties.{Register, Task, Result}
+use Rattle.quorums.proofs.Tests.{both}
+use Rattle.machine.specs.Parties.{Register, Task, valueOf, Result}
 use Rattle.machine.specs.Runs.{done, told, nth, when, answerAt}
 use Rattle.machine.specs.Steps.{Step, begin, ask, serve, hear, result, drop, transfer, share, crash, PlainRun}
 use Rattle.machine.specs.Seen.{viewOf}
 use Rattle.machine.specs.Views.{Current, Ends, Chose}
+use Rattle.machine.specs.Typed.{Bytes, Typed}
 use Rattle.machine.proofs.Performed.{telling, tells-nothing}
 
 -- ---- the last operation that a desk began
@@ -65,3 +67,42 @@ pub chose-of : (r : PlainRun) (d i : ℕ) (t : Task) (k : ℕ) (g : Register) (n
     → nth (r .steps) i ≡ some (begin d t noted) → answerAt r i ≡ done → ltb i k ≡ true → quiet (r .steps) d i k ≡ true
     → viewOf r .chosen d k ≡ some g → Chose (viewOf r) d i t g
 chose-of r d i t k g noted s a l q e = record { place = k; current = current-of r d i t k noted s a l q; phase-two = e }
+
+-- ---- arguments that a call can have
+
+-- whether a list is made of bytes
+unfoldable pub areBytes : List ℕ → Bool
+areBytes [] = true
+areBytes (x ∷ v) = cond (leb x 255) (areBytes v) false
+
+-- whether a begin has a value of bytes and a note of 32 bits
+abbrev pub typedStep : Step → Bool
+typedStep (begin d t note) = cond (areBytes (valueOf t)) (ltb note (2 ^ 32)) false
+typedStep (ask d i place size) = true
+typedStep (serve i k place size) = true
+typedStep (hear d k) = true
+typedStep (result d) = true
+typedStep (drop d) = true
+typedStep (transfer i j amount) = true
+typedStep (share i place size) = true
+typedStep (crash i) = true
+
+unfoldable pub typedSteps : List Step → Bool
+typedSteps [] = true
+typedSteps (st ∷ l) = cond (typedStep st) (typedSteps l) false
+
+byte-list : (v : List ℕ) → areBytes v ≡ true → Bytes v
+unfolding areBytes
+byte-list [] e k = omega arith
+byte-list (x ∷ v) e zero = omega (arith, leb-true x 255 (both (leb x 255) (areBytes v) e .0))
+byte-list (x ∷ v) e (suc k) = byte-list v (both (leb x 255) (areBytes v) e .1) k
+
+pub all-typed : (l : List Step) → typedSteps l ≡ true → Typed l
+unfolding typedSteps
+all-typed [] e k d t note f = absurd (Option·none-ne-some (begin d t note) f)
+all-typed (st ∷ l) e zero d t note f =
+    let is : typedStep (begin d t note) ≡ true =
+    subst (λ z. typedStep z ≡ true) (Option·some-injective st (begin d t note) f) (both (typedStep st) (typedSteps l) e .0) in
+    let b = both (areBytes (valueOf t)) (ltb note (2 ^ 32)) is in
+    (byte-list (valueOf t) (b .0), ltb-true note (2 ^ 32) (b .1))
+all-typed (st ∷ l) e (suc k) d t note f = all-typed l (both (typedStep st) (typedSteps l) e .1) k d t note f

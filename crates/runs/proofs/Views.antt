@@ -1,4 +1,4 @@
--- What is seen of the program's run is what is seen of the machine's: so the machine's clauses are the program's.
+-- What is seen of the program's run is what is seen of the machine's.
 use Prim.Native.Nat.{ℕ}
 use native.Mathlib.Omega.{arith}
 use mathlib.Core.Path.{_≡_, refl, ap, _∙_}
@@ -16,7 +16,7 @@ use Rattle.desk.specs.Desks.{numberLawful, accepted, refused, freshDesk, blankD
 use Rattle.machine.specs.Parties.{Register, Phase, first, second, by-phase, Operation, Activity, idle, running, ended, freshDesk as plainFresh}
 use Rattle.machine.specs.Runs.{mostDesk, at, deskAt}
 use Rattle.machine.specs.Steps.{PlainRun}
-use Rattle.machine.specs.Seen.{resultIn, chosenIn as plainChosen, viewOf as plainView}
+use Rattle.machine.specs.Seen.{chosenIn as plainChosen, viewOf as plainView}
 use Rattle.machine.proofs.Moves.{Seated}
 use Rattle.machine.proofs.Ranges.{RegisterRange}
 use Rattle.runs.specs.Steps.{Step, result, plain, Typed}
@@ -96,7 +96,7 @@ module _ (c : Config) (valid : validOf c ≡ true) (steps : List Step) (typed : 
   -- ---- the whole
 
   gives-same : (d k : ℕ) → viewOf p .gives d k ≡ plainView r .gives d k
-  gives-same d k = ap resultIn (step-same c valid steps typed k (at p k) (stands-at c valid steps typed k) (result d) .answer)
+  gives-same d k = step-same c valid steps typed k (at p k) (stands-at c valid steps typed k) (result d) .answer
 
   chosen-same : (d k : ℕ) → viewOf p .chosen d k ≡ plainView r .chosen d k
   chosen-same d k = either _ d (chosen-seated d k) (chosen-none d k)

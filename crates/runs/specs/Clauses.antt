@@ -1,4 +1,5 @@
--- Demand 3 (paper 01, "The runs of demand 3"), about a run of the program: equality with the plain machine, the clauses of its view, and the sheets.
+-- Demand 3 (paper 01, "The runs of demand 3"), about a run of the program: equality with the plain machine; the clauses, of what is seen of the machine's
+-- run, which is what is seen of the program's; and the sheets, of the program and of the machine.
 use Prim.Native.Nat.{ℕ, _-_, _≤_, _<_}
 use mathlib.Core.Path.{_≡_}
 use mathlib.Core.Bool.{true}
@@ -6,7 +7,7 @@ use mathlib.Core.List.{List, map}
 use mathlib.Core.Option.{some}
 use lib.IntN.{pos}
 use Rattle.quorums.specs.Sum.{size}
-use Rattle.config.specs.Cluster.{totalOf, aboveOf}
+use Rattle.config.specs.Cluster.{validOf, totalOf, aboveOf}
 use Rattle.config.specs.declared.cluster.Config.{Config}
 use Rattle.config.specs.declared.answer.Verdict.{Verdict}
 use Rattle.ledger.specs.declared.ledger.Ledger.{Ledger}
@@ -16,9 +17,11 @@ use Rattle.replica.specs.Envelopes.{receiveOf}
 use Rattle.machine.specs.Parties.{bytesOf}
 use Rattle.machine.specs.Runs.{nth, mostDesk, at, answersOf}
 use Rattle.machine.specs.Steps.{machine, PlainRun, runOf as plainRunOf}
-use Rattle.machine.specs.Views.{Order, Values, Results, Restarts}
-use Rattle.runs.specs.Steps.{plain}
-use Rattle.runs.specs.Runs.{ProgramRun}
+use Rattle.machine.specs.Views.{View, Order, Values, Results, Tags, Restarts}
+use Rattle.machine.specs.Seen.{viewOf as plainViewOf}
+use Rattle.machine.specs.Clauses.{Sheets as PlainSheets}
+use Rattle.runs.specs.Steps.{Step, plain, Typed}
+use Rattle.runs.specs.Runs.{ProgramRun, runOf}
 use Rattle.runs.specs.Seen.{ledgerIn, viewOf}
 
 -- ---- equality with the plain machine
@@ -26,6 +29,10 @@ use Rattle.runs.specs.Seen.{ledgerIn, viewOf}
 -- the plain machine's run of the same steps, of whose buffers it knows the lengths alone
 abbrev pub plainRun : ProgramRun → PlainRun
 plainRun r = plainRunOf machine (r .config) (map plain (r .steps))
+
+-- what is seen of it
+abbrev pub plainView : ProgramRun → View
+plainView r = plainViewOf (plainRun r)
 
 -- the bytes of the messages that the first k steps sent, of the program and of the machine, whose bytes are its fields by the byte table
 abbrev pub sentBytes : ProgramRun → ℕ → List (List ℕ)
@@ -62,13 +69,21 @@ pub record Demand3 (r : ProgramRun) : Type 0 where
   -- "Every answer and every sent byte equals that of the plain machine in paper 01."
   pub answers : answersOf r ≡ answersOf (plainRun r)
   pub bytes : (k : ℕ) → sentBytes r k ≡ plainBytes r k
+  -- So is what is seen of the run: an operation's tag, and what it tells, are the machine's.
+  pub seen : viewOf r ≡ plainView r
   -- "If operation A ended before B began, B's tag is no lower than A's, and higher where B writes."
-  pub order : Order (viewOf r)
+  pub order : Order (plainView r)
   -- "A read returns exactly the bytes given to the one write with its tag, or the empty start."
-  pub values : Values (viewOf r)
-  -- and what an operation that ended tells is its own kind and tag
-  pub results : Results (viewOf r)
+  pub values : Values (plainView r)
+  -- what an operation that ended tells is its own kind and tag; a write's tag is its own, and an operation, ended or not, chooses once
+  pub results : Results (plainView r)
+  pub tags : Tags (plainView r)
   -- "The restarts reported are exactly those made, and at most the transfers that the desk's sheet gained during that operation."
-  pub restarts : Restarts (viewOf r)
+  pub restarts : Restarts (plainView r)
   -- "On every sheet held or sent the weights total 1,000 for each server, each is above the floor, and any n-f servers are a quorum."
   pub sheets : Sheets r
+  pub sets : PlainSheets (plainRun r)
+
+-- The theorem: for every cluster within bounds, and every list of steps whose values are made of bytes and whose notes have 32 bits.
+abbrev pub ForEveryRun : Type 0
+ForEveryRun = (c : Config) → validOf c ≡ true → (steps : List Step) → Typed steps → Demand3 (runOf c steps)

@@ -14,7 +14,7 @@ use Rattle.desk.specs.Operations.{running}
 use Rattle.machine.specs.Parties.{Register}
 use Rattle.machine.specs.Runs.{nth, when, step, at, answerAt, deskAt}
 use Rattle.machine.specs.Views.{View}
-use Rattle.machine.specs.Seen.{resultIn, accepted, heardBy}
+use Rattle.machine.specs.Seen.{accepted, heardBy}
 use Rattle.runs.specs.Steps.{result, plain}
 use Rattle.runs.specs.Calls.{plainRegister}
 use Rattle.runs.specs.Runs.{ProgramRun}
@@ -56,7 +56,7 @@ viewOf r =
     record {
       steps = map plain (r .steps);
       answers = answerAt r;
-      gives = λ d k. resultIn (step r (at r k) (result d) .answer);
+      gives = λ d k. step r (at r k) (result d) .answer;
       chosen = λ d k. chosenIn (deskAt r d k .operation);
       brings = firstBrought r;
       holds = λ d k. transfersIn (deskAt r d k .replica .ledger);

@@ -1,66 +1,23 @@
 -- What the plain machine is shown to do by computation, the program does. Each step of the machine is made one of the program's by a buffer of zeros; and a
 -- hear is made one by value or one on a lent record, for every choice.
-use Prim.Native.Nat.{ℕ, zero, suc, _^_}
-use native.Mathlib.Omega.{arith}
+use Prim.Native.Nat.{ℕ}
 use mathlib.Core.Path.{_≡_, refl, sym, ap, ap₂, _∙_, subst}
 use mathlib.Core.Bool.{Bool, true, false, cond}
 use mathlib.Core.List.{List, [], _∷_, map}
-use mathlib.Core.Option.{Option·none-ne-some, Option·some-injective}
-use borrow.Author.Tests.{leb-true, ltb-true}
-use lib.Dec.{leb, ltb}
 use lib.ListN.{replicate, length-replicate}
-use Rattle.quorums.proofs.Tests.{both}
 use Rattle.config.specs.Cluster.{validOf}
 use Rattle.config.specs.declared.cluster.Config.{Config}
-use Rattle.machine.specs.Parties.{valueOf, bytesOf}
+use Rattle.machine.specs.Parties.{bytesOf}
 use Rattle.machine.specs.Runs.{at, answersOf}
 use Rattle.machine.specs.Steps.{Step as PlainStep, begin as plain-begin, ask as plain-ask, serve as plain-serve, hear as plain-hear, result as plain-result, drop as plain-drop, transfer as plain-transfer, share as plain-share, crash as plain-crash, machine, PlainRun, runOf as plainRunOf}
 use Rattle.machine.specs.Views.{View}
 use Rattle.machine.specs.Seen.{viewOf as plainView}
-use Rattle.machine.specs.Typed.{Bytes, Typed as TypedPlain}
+use Rattle.machine.specs.Typed.{Typed as TypedPlain}
+use Rattle.machine.proofs.Concrete.{typedSteps, all-typed}
 use Rattle.runs.specs.Steps.{Step, begin, ask, serve, hear, hear-lent, result, drop, transfer, share, crash, plain, Typed}
 use Rattle.runs.specs.Runs.{ProgramRun, runOf}
 use Rattle.runs.specs.Seen.{viewOf}
-use Rattle.runs.proofs.Views.{view-same}
 use Rattle.runs.proofs.Demand3.{demand3}
-
--- ---- arguments that a call can have
-
-unfoldable pub bytes : List ℕ → Bool
-bytes [] = true
-bytes (x ∷ v) = cond (leb x 255) (bytes v) false
-
--- whether a begin has a value of bytes and a note of 32 bits
-abbrev pub typedStep : PlainStep → Bool
-typedStep (plain-begin d t note) = cond (bytes (valueOf t)) (ltb note (2 ^ 32)) false
-typedStep (plain-ask d i place size) = true
-typedStep (plain-serve i k place size) = true
-typedStep (plain-hear d k) = true
-typedStep (plain-result d) = true
-typedStep (plain-drop d) = true
-typedStep (plain-transfer i j amount) = true
-typedStep (plain-share i place size) = true
-typedStep (plain-crash i) = true
-
-unfoldable pub typedSteps : List PlainStep → Bool
-typedSteps [] = true
-typedSteps (st ∷ l) = cond (typedStep st) (typedSteps l) false
-
-byte-list : (v : List ℕ) → bytes v ≡ true → Bytes v
-unfolding bytes
-byte-list [] e k = omega arith
-byte-list (x ∷ v) e zero = omega (arith, leb-true x 255 (both (leb x 255) (bytes v) e .0))
-byte-list (x ∷ v) e (suc k) = byte-list v (both (leb x 255) (bytes v) e .1) k
-
-all-typed : (l : List PlainStep) → typedSteps l ≡ true → TypedPlain l
-unfolding typedSteps
-all-typed [] e k d t note f = absurd (Option·none-ne-some (plain-begin d t note) f)
-all-typed (st ∷ l) e zero d t note f =
-    let is : typedStep (plain-begin d t note) ≡ true =
-    subst (λ z. typedStep z ≡ true) (Option·some-injective st (plain-begin d t note) f) (both (typedStep st) (typedSteps l) e .0) in
-    let b = both (bytes (valueOf t)) (ltb note (2 ^ 32)) is in
-    (byte-list (valueOf t) (b .0), ltb-true note (2 ^ 32) (b .1))
-all-typed (st ∷ l) e (suc k) d t note f = all-typed l (both (typedStep st) (typedSteps l) e .1) k d t note f
 
 -- `lent` says of each message, by its place among those sent, whether it is heard on a lent record.
 module _ (lent : ℕ → Bool) where
@@ -113,7 +70,7 @@ module _ (lent : ℕ → Bool) where
 
     -- it is what is seen of the machine's
     pub view-shown : plainView (plainRunOf machine c l) ≡ seen (plainRunOf machine c l)
-    view-shown = ap (λ z. plainView (plainRunOf machine c z)) (sym (all-filled l)) ∙ sym (view-same c valid (map filled l) typed)
+    view-shown = ap (λ z. plainView (plainRunOf machine c z)) (sym (all-filled l)) ∙ sym (demand3 c valid (map filled l) typed .seen)
 
     -- and every answer, and every byte sent, is the machine's
     pub answers-shown : answersOf (runFor (plainRunOf machine c l)) ≡ answersOf (plainRunOf machine c l)

@@ -7,9 +7,10 @@ use mathlib.Core.List.{List}
 use lib.ListN.{length}
 use Rattle.config.specs.Cluster.{configOf, validOf}
 use Rattle.machine.specs.Runs.{at, answersOf}
+use Rattle.machine.proofs.Concrete.{areBytes, typedSteps}
 use Rattle.machine.proofs.Pins.{Row, stepsOf, answersIn, alone, aloneBytes, sixteen, sixteenBytes, runIn, pins}
 use Rattle.runs.specs.Runs.{ProgramRun}
-use Rattle.worked.proofs.Carried.{bytes, typedSteps, runFor, answers-shown, bytes-shown}
+use Rattle.worked.proofs.Carried.{runFor, answers-shown, bytes-shown}
 
 module _ (lent : ℕ → Bool) where
   -- the program's run of a list of rows
@@ -23,7 +24,7 @@ module _ (lent : ℕ → Bool) where
     pub sixteen-bytes : at (programIn 16 7 sixteen) (length sixteen) .sent ≡ sixteenBytes
 
   pub program-pins : Pinned
-  unfolding bytes typedSteps validOf
+  unfolding areBytes typedSteps validOf
   program-pins =
       record {
         alone-answers = answers-shown lent (configOf 1 0) refl (stepsOf alone) refl ∙ pins .alone-answers;

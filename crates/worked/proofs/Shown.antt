@@ -10,10 +10,11 @@ use Rattle.machine.specs.Parties.{read, write, start}
 use Rattle.machine.specs.Runs.{nth, done, told}
 use Rattle.machine.specs.Views.{Ends, Chose, restartsMade, gain}
 use Rattle.machine.proofs.Computing.{computing}
+use Rattle.machine.proofs.Concrete.{areBytes, typedSteps}
 use Rattle.nearmiss.specs.Steps.{sale, sold, returned, written}
 use Rattle.nearmiss.proofs.Shown.{across, read-across, droppedWrite, read-dropped, twoRestarts, write-restarted, unwritten, read-unwritten}
 use Rattle.runs.specs.Steps.{hear, hear-lent}
-use Rattle.worked.proofs.Carried.{bytes, typedSteps, runFor, seen, view-shown}
+use Rattle.worked.proofs.Carried.{runFor, seen, view-shown}
 
 -- `lent` says of each message, by its place among those sent, whether it is heard on a lent record.
 module _ (lent : ℕ → Bool) where
@@ -25,7 +26,7 @@ module _ (lent : ℕ → Bool) where
     pub read-told : seen lent across .answers 38 ≡ told (returned sold 1)
 
   pub program-across : Across
-  unfolding typedSteps bytes validOf
+  unfolding typedSteps areBytes validOf
   program-across =
       let same = view-shown lent (configOf 4 1) refl (across .steps) refl in
       record {
@@ -43,7 +44,7 @@ module _ (lent : ℕ → Bool) where
     pub read-told : seen lent droppedWrite .answers 23 ≡ told (returned sold 0)
 
   pub program-dropped : Dropped
-  unfolding typedSteps bytes validOf
+  unfolding typedSteps areBytes validOf
   program-dropped =
       let same = view-shown lent (configOf 3 1) refl (droppedWrite .steps) refl in
       record {
@@ -64,7 +65,7 @@ module _ (lent : ℕ → Bool) where
     pub gained : gain (seen lent twoRestarts) 1 2 21 ≡ 3
 
   pub program-restarted : Restarted
-  unfolding typedSteps bytes validOf computing
+  unfolding typedSteps areBytes validOf computing
   program-restarted =
       let same = view-shown lent (configOf 3 1) refl (twoRestarts .steps) refl in
       record {
@@ -82,7 +83,7 @@ module _ (lent : ℕ → Bool) where
     pub read-told : seen lent unwritten .answers 13 ≡ told (returned start 0)
 
   pub program-unwritten : Unwritten
-  unfolding typedSteps bytes validOf
+  unfolding typedSteps areBytes validOf
   program-unwritten =
       let same = view-shown lent (configOf 3 1) refl (unwritten .steps) refl in
       record {
@@ -111,7 +112,7 @@ pub record Lent : Type 0 where
   pub same : seen everyOther twoRestarts ≡ seen noneLent twoRestarts
 
 pub program-lent : Lent
-unfolding typedSteps bytes validOf
+unfolding typedSteps areBytes validOf
 program-lent =
     record {
       hears = refl;
