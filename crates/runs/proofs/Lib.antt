@@ -19,3 +19,7 @@ pub mod Brought
 pub mod Views
 -- Demand 3.
 pub mod Demand3
+-- What follows from it.
+pub mod Consequences
+pub mod Sold
+pub mod Literal

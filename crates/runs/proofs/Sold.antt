@@ -1,0 +1,231 @@
+-- A sale, and whatever follows it: what demand 3 says of every list of steps that begins with it. One server (n = 1, f = 0); desk 1 writes two bytes.
+use Prim.Native.Nat.{ℕ, zero, suc, _≤_, _<_}
+use native.Mathlib.Omega.{arith}
+use mathlib.Core.Path.{_≡_, refl, sym, ap, _∙_, subst}
+use mathlib.Core.Logic.{inl, inr, ⊎-elim}
+use mathlib.Core.Bool.{true, false, true≢false}
+use mathlib.Core.List.{List, [], _∷_, map}
+use mathlib.Core.Option.{Option, some}
+use lib.ListN.{replicate}
+use Rattle.quorums.proofs.Tests.{le-or-lt}
+use Rattle.config.specs.Cluster.{configOf, validOf}
+use Rattle.config.specs.declared.cluster.Config.{Config}
+use Rattle.machine.specs.Parties.{Register, below, Task, read, write, writes, Result}
+use Rattle.machine.specs.Runs.{nth, done, told, answerAt, deskAt}
+use Rattle.machine.specs.Steps.{Step as PlainStep, begin as plain-begin, result as plain-result}
+use Rattle.machine.specs.Views.{Begins, Current, Ends, Chose, Source, Told}
+use Rattle.machine.proofs.Computing.{computing}
+use Rattle.machine.proofs.Tags.{lower-below}
+use Rattle.machine.proofs.Performed.{current-unique}
+use Rattle.machine.proofs.Concrete.{ends-of}
+use Rattle.runs.specs.Steps.{Step, begin, ask, serve, hear, hear-lent, plain, Typed}
+use Rattle.runs.specs.Runs.{ProgramRun, runOf}
+use Rattle.runs.specs.Seen.{chosenIn, viewOf}
+use Rattle.runs.specs.Clauses.{plainRun, plainView}
+use Rattle.runs.proofs.Demand3.{demand3}
+use Rattle.runs.proofs.Consequences.{own-order, own-values, own-results, own-tags, own-restarts}
+
+-- ---- the sale
+
+abbrev alone : Config
+alone = configOf 1 0
+
+valid : validOf alone ≡ true
+unfolding validOf
+valid = refl
+
+abbrev buffer : List ℕ
+buffer = replicate 32 0
+
+-- a block of sixteen seats of which fourteen are sold, and its register
+abbrev pub sale : List ℕ
+sale = 255 ∷ 252 ∷ []
+
+abbrev pub sold : Register
+sold = record { stamp = 1; desk = 1; value = sale }
+
+abbrev pub sale-told : Result
+sale-told = record { is-write = true; register = sold; restarts = 0 }
+
+-- it ends at place 6, and is followed by anything
+abbrev pub selling : List Step → List Step
+selling rest =
+    begin 1 (write sale) 0
+    ∷ ask 1 0 0 buffer
+    ∷ serve 0 0 0 buffer
+    ∷ hear 1 1
+    ∷ ask 1 0 0 buffer
+    ∷ serve 0 2 0 buffer
+    ∷ hear-lent 1 3
+    ∷ rest
+
+-- ---- operations, written out
+
+-- Desk d began the task t at place i, by an accepted begin, and no other operation before place k.
+pub record Began (p : ProgramRun) (d i : ℕ) (t : Task) (k : ℕ) : Type 0 where
+  pub note : ℕ
+  pub step : nth (map plain (p .steps)) i ≡ some (plain-begin d t note)
+  pub taken : answerAt p i ≡ done
+  pub earlier : i < k
+  pub last : (q : ℕ) (u : Task) (m : ℕ) → i < q → q < k → nth (map plain (p .steps)) q ≡ some (plain-begin d u m) → answerAt p q ≡ done → ⊥
+
+current : {p : ProgramRun} {d i : ℕ} {t : Task} {k : ℕ} → Began p d i t k → Current (viewOf p) d i t k
+current b =
+    record {
+      begun = record { note = b .note; step = b .step; taken = b .taken };
+      earlier = b .earlier;
+      last = λ q u l m w. b .last q u (w .note) l m (w .step) (w .taken);
+    }
+
+-- no write is begun after place i
+abbrev pub NoWrite : ProgramRun → ℕ → Type 0
+NoWrite p i = (k d : ℕ) (w : List ℕ) (m : ℕ) → i < k → nth (map plain (p .steps)) k ≡ some (plain-begin d (write w) m) → ⊥
+
+-- ---- what follows
+
+module _ (rest : List Step) (typed : Typed (selling rest)) where
+  abbrev p : ProgramRun
+  p = runOf alone (selling rest)
+
+  plain-ends : Ends (plainView p) 1 0 (write sale) 6 sale-told
+  unfolding computing
+  plain-ends = ends-of (plainRun p) 1 0 (write sale) 6 sale-told 0 3 refl refl refl refl refl refl refl
+
+  sale-ends : Ends (viewOf p) 1 0 (write sale) 6 sale-told
+  sale-ends = subst (λ v. Ends v 1 0 (write sale) 6 sale-told) (sym (demand3 alone valid (selling rest) typed .seen)) plain-ends
+
+  sale-chose : Chose (viewOf p) 1 0 (write sale) sold
+  sale-chose = own-results alone valid (selling rest) typed .chose 1 0 6 (write sale) sale-told sale-ends
+
+  -- An operation that begins after the sale, of whatever desk, and has a tag, running, ended or dropped, has one no lower than (1, 1); a write's is
+  -- higher.
+  pub later-tags : (d i k : ℕ) (t : Task) (g : Register) → 6 < i → Began p d i t k → chosenIn (deskAt p d k .operation) ≡ some g
+      → (below g sold ≡ false) × (writes t ≡ true → below sold g ≡ true)
+  later-tags d i k t g l b e =
+      own-order alone valid (selling rest) typed 1 0 6 (write sale) sale-told sold sale-ends sale-chose d i t g l
+      (record { place = k; current = current b; phase-two = e })
+
+  -- ---- the one write of the sale
+
+  -- a write begun no later than the sale's end is the sale
+  only-begin : (k d : ℕ) (w : List ℕ) (m : ℕ) → k ≤ 6 → nth (map plain (selling rest)) k ≡ some (plain-begin d (write w) m)
+      → (d ≡ 1) × (k ≡ 0) × (w ≡ sale)
+  only-begin zero d w m l e = (cc, refl, cc)
+  only-begin (suc zero) d w m l e = let z : _≡_ {A = ℕ} 0 1 = cc in absurd (omega arith)
+  only-begin (suc (suc zero)) d w m l e = let z : _≡_ {A = ℕ} 0 1 = cc in absurd (omega arith)
+  only-begin (suc (suc (suc zero))) d w m l e = let z : _≡_ {A = ℕ} 0 1 = cc in absurd (omega arith)
+  only-begin (suc (suc (suc (suc zero)))) d w m l e = let z : _≡_ {A = ℕ} 0 1 = cc in absurd (omega arith)
+  only-begin (suc (suc (suc (suc (suc zero))))) d w m l e = let z : _≡_ {A = ℕ} 0 1 = cc in absurd (omega arith)
+  only-begin (suc (suc (suc (suc (suc (suc zero)))))) d w m l e = let z : _≡_ {A = ℕ} 0 1 = cc in absurd (omega arith)
+  only-begin (suc (suc (suc (suc (suc (suc (suc k))))))) d w m l e = absurd (omega arith)
+
+  -- So, where no write is begun after the sale, a register that is no start's and comes from a write is the sale's.
+  from-sale : NoWrite p 6 → (g : Register) → below g sold ≡ false → Source (viewOf p) g (g .value) → g ≡ sold
+  from-sale none g low (inl s) = absurd (true≢false (sym (lower-below g sold (inl (omega (arith, s .0)))) ∙ low))
+  from-sale none g low (inr o) = λ i. record { stamp = stamp i; desk = desk i; value = is .2 i }
+    where
+      b : Begins (viewOf p) (o .desk) (o .begun) (write (g .value))
+      b = o .chose .current .begun
+
+      is : (o .desk ≡ 1) × (o .begun ≡ 0) × (g .value ≡ sale)
+      is =
+          ⊎-elim (λ (l : o .begun ≤ 6). only-begin (o .begun) (o .desk) (g .value) (b .note) l (b .step))
+          (λ (l : 6 < o .begun). absurd (none (o .begun) (o .desk) (g .value) (b .note) l (b .step)))
+          (le-or-lt (o .begun) 6)
+
+      one : o .register ≡ sold
+      one =
+          own-tags alone valid (selling rest) typed .once 1 0 (write sale) (o .register) sold
+          (subst (λ d. Chose (viewOf p) d 0 (write sale) (o .register)) (is .0)
+          (subst (λ j. Chose (viewOf p) (o .desk) j (write sale) (o .register)) (is .1)
+          (subst (λ w. Chose (viewOf p) (o .desk) (o .begun) (write w) (o .register)) (is .2) (o .chose))))
+          sale-chose
+
+      stamp : g .stamp ≡ 1
+      stamp = sym (o .tag .0) ∙ ap (λ y. y .stamp) one
+
+      desk : g .desk ≡ 1
+      desk = sym (o .tag .1) ∙ ap (λ y. y .desk) one
+
+  -- ---- reads
+
+  -- a read that begins after the sale, and has a tag, running, ended or dropped, has the sale's register
+  pub later-chosen : NoWrite p 6 → (d i k : ℕ) (g : Register) → 6 < i → Began p d i read k → chosenIn (deskAt p d k .operation) ≡ some g → g ≡ sold
+  later-chosen none d i k g l b e =
+      from-sale none g (later-tags d i k read g l b e .0)
+      (own-values alone valid (selling rest) typed .source d i g (record { place = k; current = current b; phase-two = e }))
+
+  -- The result that a desk is told of a read which it began after the sale is the sale.
+  pub later-told : NoWrite p 6 → (d i q : ℕ) (x : Result) → 6 < i → Began p d i read q → nth (map plain (selling rest)) q ≡ some (plain-result d)
+      → answerAt p q ≡ told x
+      → (x .is-write ≡ false) × (x .register ≡ sold)
+  later-told none d i q x l b s e = (
+    own-results alone valid (selling rest) typed .kind d i (t .end) read x ends,
+    from-sale none (x .register) low (own-values alone valid (selling rest) typed .returned d i (t .end) x ends),
+  )
+    where
+      t : Told (viewOf p) q x
+      t = own-restarts alone valid (selling rest) typed .reported q x e
+
+      same-desk : {o : Option PlainStep} {y z : ℕ} → o ≡ some (plain-result y) → o ≡ some (plain-result z) → y ≡ z
+      same-desk u w = cc
+
+      at-desk : t .desk ≡ d
+      at-desk = same-desk (t .step) s
+
+      same : (t .begun ≡ i) × (t .task ≡ read)
+      same = current-unique (subst (λ y. Current (viewOf p) y (t .begun) (t .task) q) at-desk (t .current)) (current b)
+
+      ends : Ends (viewOf p) d i read (t .end) x
+      ends =
+          subst (λ u. Ends (viewOf p) d i u (t .end) x) (same .1)
+          (subst (λ j. Ends (viewOf p) d j (t .task) (t .end) x) (same .0)
+          (subst (λ y. Ends (viewOf p) y (t .begun) (t .task) (t .end) x) at-desk (t .ends)))
+
+      low : below (x .register) sold ≡ false
+      low =
+          own-order alone valid (selling rest) typed 1 0 6 (write sale) sale-told sold sale-ends sale-chose d i read (x .register) l
+          (own-results alone valid (selling rest) typed .chose d i (t .end) read x ends) .0
+
+-- ---- a read of the sale
+
+-- desk 2 reads it, from place 7 to place 13
+abbrev pub reading : List Step → List Step
+reading rest =
+    begin 2 read 0
+    ∷ ask 2 0 0 buffer
+    ∷ serve 0 4 0 buffer
+    ∷ hear 2 5
+    ∷ ask 2 0 0 buffer
+    ∷ serve 0 6 0 buffer
+    ∷ hear 2 7
+    ∷ rest
+
+abbrev pub read-told : Result
+read-told = record { is-write = false; register = sold; restarts = 0 }
+
+module _ (rest : List Step) (typed : Typed (selling (reading rest))) where
+  abbrev q : ProgramRun
+  q = runOf alone (selling (reading rest))
+
+  plain-read : Ends (plainView q) 2 7 read 13 read-told
+  unfolding computing
+  plain-read = ends-of (plainRun q) 2 7 read 13 read-told 0 7 refl refl refl refl refl refl refl
+
+  read-ends : Ends (viewOf q) 2 7 read 13 read-told
+  read-ends =
+      subst (λ v. Ends v 2 7 read 13 read-told) (sym (demand3 alone valid (selling (reading rest)) typed .seen)) plain-read
+
+  -- Whatever follows: no other write ever has the tag (1, 1) that was read.
+  pub only-sale : (d i k : ℕ) (w : List ℕ) (h : Register) → Began q d i (write w) k → chosenIn (deskAt q d k .operation) ≡ some h → h .stamp ≡ 1
+      → h .desk ≡ 1
+      → (d ≡ 1) × (i ≡ 0)
+  only-sale d i k w h b e stamp desk =
+      by-source (own-values alone valid (selling (reading rest)) typed .returned 2 7 13 read-told read-ends)
+    where
+      by-source : Source (viewOf q) sold sale → (d ≡ 1) × (i ≡ 0)
+      by-source (inl s) = absurd (omega (arith, s .0))
+      by-source (inr o) =
+          let here = o .only 1 0 sale sold (sale-chose (reading rest) typed) (refl, refl) in
+          let there = o .only d i w h (record { place = k; current = current b; phase-two = e }) (stamp, desk) in
+          (there .0 ∙ sym (here .0), there .1 ∙ sym (here .1))
