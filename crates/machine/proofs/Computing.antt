@@ -9,7 +9,7 @@ use Rattle.machine.specs.Sets.{same, has, includes, missing, union, tall
 use Rattle.machine.specs.Parties.{below, higher, join, bytesOf, answered}
 use Rattle.machine.specs.Runs.{onServer, onDesk, onCrash, take, at, answerAt, inTurn}
 use Rattle.machine.specs.Calls.{send, transferBy, shareBy, serveBy, answerRequest, beginBy, askBy, hearBy, restart, choose, mark, resultBy, dropBy}
-use Rattle.machine.specs.Seen.{brings, brought}
+use Rattle.machine.specs.Seen.{hears, heard}
 use Rattle.machine.specs.Views.{restartsMade, gain}
 
 -- all that a run computes through
@@ -17,5 +17,5 @@ unfoldable pub computing : Unit {0}
 unfolding inTurn answerAt at take onServer onDesk onCrash send transferBy shareBy serveBy answerRequest beginBy askBy hearBy restart choose mark resultBy
     dropBy join higher below union missing includes has same tally count cell given received weightOf quorumOf answered bytesOf quorum margin weightIn
     weight total validOf startOf totalOf aboveOf above stampBytes mostStamp sumℤ sum sumIn size all difference encodeFields bytes number series stands marks
-    bit registerMark register cellMap cells rowMark row rowMap rows sheet fieldMap fieldMapOf head note brings brought restartsMade gain
+    bit registerMark register cellMap cells rowMark row rowMap rows sheet fieldMap fieldMapOf head note hears heard restartsMade gain
 computing = tt

@@ -4,8 +4,8 @@ use Prim.Native.Nat.{ℕ, zero, suc, _+_, _≤_, _<_}
 use native.Mathlib.Omega.{arith}
 use mathlib.Core.Path.{_≡_, refl, sym, ap, _∙_, subst}
 use mathlib.Core.Bool.{Bool, true, false, cond, false≢true}
-use mathlib.Core.List.{List}
-use mathlib.Core.Option.{some}
+use mathlib.Core.List.{List, [], _∷_}
+use mathlib.Core.Option.{Option, none, some}
 use borrow.Author.Tests.{lt-ltb, le-ltb}
 use lib.Dec.{ltb}
 use lib.ListN.{length, length-append}
@@ -16,14 +16,14 @@ use Rattle.format.proofs.Marks.{stands-pos, stands-most}
 use Rattle.config.specs.declared.cluster.Config.{Config}
 use Rattle.machine.specs.Sets.{Transfer, Transfers, has, includes, missing, union}
 use Rattle.machine.specs.Parties.{Message, join, Task, Operation, Result, Activity, idle, running, ended, Desk}
-use Rattle.machine.specs.Runs.{Answer, unmade, done, wrote, told, nth, at, answerAt, deskAt}
+use Rattle.machine.specs.Runs.{Answer, unmade, done, wrote, told, nth, when, at, answerAt, deskAt}
 use Rattle.machine.specs.Steps.{Step, result, runOf, PlainRun, machine}
-use Rattle.machine.specs.Seen.{accepted, brings, brought, firstBrought, viewOf}
+use Rattle.machine.specs.Seen.{accepted, hears, heard, transfersOf, viewOf}
 use Rattle.machine.specs.Views.{Current, Ends, restartsMade, gain, Told, Restarts}
 use Rattle.machine.proofs.Branches.{when-cases}
 use Rattle.machine.proofs.Sets.{has-append, has-union, missing-none, missing-some, missing-same}
 use Rattle.machine.proofs.Moves.{PlainMade, moved}
-use Rattle.machine.proofs.Desks.{desk-moved}
+use Rattle.machine.proofs.Desks.{brings, desk-moved}
 use Rattle.machine.proofs.Performed.{NoBegin, telling, tells-nothing, current-earlier, current-ended, during, begins-is, gives-ended, ended-origin}
 
 -- ---- how a reply counts: 1 where it has a transfer that the desk's set lacks
@@ -34,6 +34,10 @@ brings-more a b e = stands-pos (length (missing a b)) (missing-some a b e)
 brings-none : (a b : Transfers) → includes a b ≡ true → stands (length (missing a b)) ≡ 0
 unfolding stands
 brings-none a b e = ap (λ l. stands (length l)) (missing-none a b e)
+
+or-false : (b : Bool) → b ≡ cond b true false
+or-false true = refl
+or-false false = refl
 
 -- the counter of the operation that runs, or of its result, is n
 abbrev Counts : ℕ → Activity → Type 0
@@ -54,34 +58,57 @@ module _ (c : Config) (steps : List Step) where
   held-next d k t =
       desk-moved c steps d k (λ a y. has (y .replica .set) t ≡ cond (has (deskAt r d k .replica .set) t) true (has a t))
       (record {
-        still = nothing-new (has (deskAt r d k .replica .set) t);
-        begins = λ u note b l rests room. nothing-new (has (deskAt r d k .replica .set) t);
-        drops = λ o e. nothing-new (has (deskAt r d k .replica .set) t);
+        still = or-false (has (deskAt r d k .replica .set) t);
+        begins = λ u note b l rests room. or-false (has (deskAt r d k .replica .set) t);
+        drops = λ o e. or-false (has (deskAt r d k .replica .set) t);
         restarts = λ p m o f i room. has-union (deskAt r d k .replica .set) (m .replica .set) t;
         marks = λ p m o f i. has-union (deskAt r d k .replica .set) (m .replica .set) t;
         chooses = λ p m o f i q g room w. has-union (deskAt r d k .replica .set) (m .replica .set) t;
         ends = λ p m o g s f i q z. has-union (deskAt r d k .replica .set) (m .replica .set) t;
       })
+
+  -- what the hears before step k brought
+  abbrev pub brought : ℕ → ℕ → Transfers
+  brought d k = transfersOf (heard r d k)
+
+  brought-next : (d k : ℕ) (t : Transfer) → has (brought d (suc k)) t ≡ cond (has (brought d k) t) true (has (brings r d k) t)
+  unfolding heard has
+  brought-next d k t = by-message (hears r d k)
     where
-      nothing-new : (b : Bool) → b ≡ cond b true false
-      nothing-new true = refl
-      nothing-new false = refl
+      by-message : (o : Option Message)
+          → has (transfersOf (when o (heard r d k) (λ m. m ∷ heard r d k))) t
+          ≡ cond (has (brought d k) t) true (has (when o [] (λ m. m .replica .set)) t)
+      by-message none = or-false (has (brought d k) t)
+      by-message (some m) = has-append (brought d k) (m .replica .set) t
 
   -- the set has what the hears brought
-  pub held : (d k : ℕ) (t : Transfer) → has (brought r d k) t ≡ has (deskAt r d k .replica .set) t
-  unfolding brought at has
+  pub held : (d k : ℕ) (t : Transfer) → has (brought d k) t ≡ has (deskAt r d k .replica .set) t
+  unfolding heard at has
   held d zero t = refl
-  held d (suc k) t = rw (has-append (brought r d k) (brings r d k) t, held d k t) (sym (held-next d k t))
+  held d (suc k) t = rw (brought-next d k t, held d k t) (sym (held-next d k t))
+
+  -- the transfers that step k is the first to bring
+  abbrev pub firstBrought : ℕ → ℕ → Transfers
+  firstBrought d k = missing (brought d k) (brings r d k)
+
+  pub brings-is : (d k : ℕ) → viewOf r .brings d k ≡ length (firstBrought d k)
+  unfolding missing
+  brings-is d k = by-message (hears r d k)
+    where
+      by-message : (o : Option Message)
+          → when o 0 (λ m. length (missing (brought d k) (m .replica .set))) ≡ length (missing (brought d k) (when o [] (λ m. m .replica .set)))
+      by-message none = refl
+      by-message (some m) = refl
 
   -- ---- the counter
 
   -- what place p counts for the operation from place i
   abbrev counted : ℕ → ℕ → ℕ → ℕ
-  counted d i p = cond (ltb i p) (stands (length (firstBrought r d p))) 0
+  counted d i p = cond (ltb i p) (stands (viewOf r .brings d p)) 0
 
   counted-is : (d i k : ℕ) → i < k → counted d i k ≡ stands (length (missing (deskAt r d k .replica .set) (brings r d k)))
   counted-is d i k l =
-      rw (lt-ltb i k l) (ap (λ a. stands (length a)) (missing-same (brought r d k) (deskAt r d k .replica .set) (brings r d k) (held d k)))
+      rw (lt-ltb i k l, brings-is d k) (ap (λ a. stands (length a)) (missing-same (brought d k) (deskAt r d k .replica .set) (brings r d k) (held d k)))
 
   -- a restart counts one, any other step of the operation nothing
   counts-next : (d k n : ℕ) → NoBegin (viewOf r) d k → Counts n (deskAt r d k .activity)
@@ -132,8 +159,7 @@ module _ (c : Config) (steps : List Step) where
   gained : (d i k : ℕ) → restartsMade (viewOf r) d i k ≤ gain (viewOf r) d i k
   unfolding restartsMade gain
   gained d i k =
-      sum-le (suc k) (counted d i) (λ p. cond (ltb i p) (length (firstBrought r d p)) 0)
-      (λ p l. at-most (ltb i p) (length (firstBrought r d p)))
+      sum-le (suc k) (counted d i) (λ p. cond (ltb i p) (viewOf r .brings d p) 0) (λ p l. at-most (ltb i p) (viewOf r .brings d p))
     where
       at-most : (b : Bool) (x : ℕ) → cond b (stands x) 0 ≤ cond b x 0
       at-most true x = stands-most x
@@ -143,11 +169,11 @@ module _ (c : Config) (steps : List Step) where
 
   -- what place p gains for the operation from place i
   abbrev gains : ℕ → ℕ → ℕ → ℕ
-  gains d i p = cond (ltb i p) (length (firstBrought r d p)) 0
+  gains d i p = cond (ltb i p) (viewOf r .brings d p) 0
 
   gains-is : (d i k : ℕ) → i < k → gains d i k ≡ length (missing (deskAt r d k .replica .set) (brings r d k))
   gains-is d i k l =
-      rw (lt-ltb i k l) (ap (λ a. length a) (missing-same (brought r d k) (deskAt r d k .replica .set) (brings r d k) (held d k)))
+      rw (lt-ltb i k l, brings-is d k) (ap (λ a. length a) (missing-same (brought d k) (deskAt r d k .replica .set) (brings r d k) (held d k)))
 
   union-size : (a b : Transfers) → length (union a b) ≡ length a + length (missing a b)
   unfolding union

@@ -1,21 +1,21 @@
 -- What is seen of a run of the plain machine, or of another store on sets of transfers.
 use Prim.Native.Nat.{ℕ, zero, suc}
 use mathlib.Core.Bool.{Bool, true, false, cond}
-use mathlib.Core.List.{List, [], _++_}
+use mathlib.Core.List.{List, [], _∷_, _++_}
 use mathlib.Core.Option.{Option, none, some}
 use lib.Dec.{eqb}
 use lib.ListN.{length}
 use Rattle.machine.specs.Sets.{Transfers, missing}
-use Rattle.machine.specs.Parties.{Register, by-phase, Activity, if-running}
-use Rattle.machine.specs.Runs.{nth, when, Answer, unmade, late, refused, done, wrote, told, step, at, answerAt, deskAt}
-use Rattle.machine.specs.Steps.{Step, begin, ask, serve, hear, result, drop, transfer, share, crash, PlainRun}
+use Rattle.machine.specs.Parties.{Register, Message, by-phase, Activity, if-running}
+use Rattle.machine.specs.Runs.{nth, when, Answer, unmade, late, refused, done, wrote, told, Call, of-server, of-desk, crashing, Asked, call, call-with, Run, step, at, answerAt, deskAt}
+use Rattle.machine.specs.Steps.{result, PlainRun}
 use Rattle.machine.specs.Views.{View}
 
 -- the register that phase 1 chose, of an operation in phase 2
 abbrev pub chosenIn : Activity → Option Register
 chosenIn a = if-running a (λ o. by-phase (o .phase) none (λ g. some g)) none
 
--- ---- what hears bring
+-- ---- what desks hear
 
 -- whether an answer is that of a hear which was neither refused nor late
 abbrev pub accepted : Answer → Bool
@@ -26,32 +26,30 @@ accepted done = true
 accepted (wrote k) = true
 accepted (told x) = true
 
--- the message that a step hears at desk d, of those sent
-abbrev pub heardBy : {A : Type 0} → ℕ → List A → Step → Option A
-heardBy d l (begin e t note) = none
-heardBy d l (ask e i place size) = none
-heardBy d l (serve i k place size) = none
-heardBy d l (hear e k) = cond (eqb e d) (nth l k) none
-heardBy d l (result e) = none
-heardBy d l (drop e) = none
-heardBy d l (transfer i j amount) = none
-heardBy d l (share i place size) = none
-heardBy d l (crash i) = none
+-- the message m, where a call with it is one of desk d
+abbrev pub heardBy : {S D M : Type 0} → ℕ → M → Call S D M → Option M
+heardBy d m (of-server i f) = none
+heardBy d m (of-desk e f) = cond (eqb e d) (some m) none
+heardBy d m (crashing i) = none
 
--- the transfers that step k brings to desk d: those of the reply, where step k is a hear of d, neither refused nor late
-unfoldable pub brings : PlainRun → ℕ → ℕ → Transfers
-brings r d k =
-    when (nth (r .steps) k) []
-    (λ s. cond (accepted (answerAt r k)) (when (heardBy d (at r k .sent) s) [] (λ m. m .replica .set)) [])
+-- the message of those sent that desk d is asked to hear: what a desk is called with is heard
+abbrev pub heardIn : {S D M : Type 0} → ℕ → List M → Asked S D M → Option M
+heardIn d l (call x) = none
+heardIn d l (call-with k f) = when (nth l k) none (λ m. heardBy d m (f m))
 
--- what the hears of desk d among the first k steps brought, in whatever operation
-unfoldable pub brought : PlainRun → ℕ → ℕ → Transfers
-brought r d zero = []
-brought r d (suc k) = brought r d k ++ brings r d k
+-- The message that desk d hears at step k, where the hear is neither refused nor late; and all that it heard before, in whatever operation: of any run,
+-- the machine's or the program's.
+unfoldable pub hears : {S D M T : Type 0} → Run S D M T → ℕ → ℕ → Option M
+hears r d k = when (nth (r .steps) k) none (λ s. cond (accepted (answerAt r k)) (heardIn d (at r k .sent) (r .asks s)) none)
 
--- the transfers that step k is the first to bring
-abbrev pub firstBrought : PlainRun → ℕ → ℕ → Transfers
-firstBrought r d k = missing (brought r d k) (brings r d k)
+unfoldable pub heard : {S D M T : Type 0} → Run S D M T → ℕ → ℕ → List M
+heard r d zero = []
+heard r d (suc k) = when (hears r d k) (heard r d k) (λ m. m ∷ heard r d k)
+
+-- the transfers that messages bring
+abbrev pub transfersOf : List Message → Transfers
+transfersOf [] = []
+transfersOf (m ∷ l) = transfersOf l ++ m .replica .set
 
 -- ---- the whole
 
@@ -62,6 +60,6 @@ viewOf r =
       answers = answerAt r;
       gives = λ d k. step r (at r k) (result d) .answer;
       chosen = λ d k. chosenIn (deskAt r d k .activity);
-      brings = λ d k. length (firstBrought r d k);
+      brings = λ d k. when (hears r d k) 0 (λ m. length (missing (transfersOf (heard r d k)) (m .replica .set)));
       holds = λ d k. length (deskAt r d k .replica .set);
     }

@@ -11,7 +11,7 @@ use lib.Dec.{eqb}
 use lib.ListN.{length}
 use Rattle.quorums.specs.Sum.{sum}
 use Rattle.quorums.proofs.Tests.{le-or-lt}
-use Rattle.quorums.proofs.Sums.{sum-same, sum-add, sum-one}
+use Rattle.quorums.proofs.Sums.{sum-same, sum-add, sum-one, sum-zero}
 use Rattle.config.specs.Cluster.{validOf}
 use Rattle.config.specs.declared.cluster.Config.{Config}
 use Rattle.config.proofs.Clusters.{valid-bounds}
@@ -19,21 +19,22 @@ use Rattle.ledger.specs.Ledgers.{countOf}
 use Rattle.machine.specs.Sets.{Transfer, Transfers, has, union, tally, count}
 use Rattle.machine.specs.Parties.{join, Message, bytesOf}
 use Rattle.machine.specs.Runs.{at, answerAt, nth, when, deskAt}
-use Rattle.machine.specs.Steps.{Step as PlainStep, begin, ask, serve, hear, result, drop, transfer, share, crash, PlainRun}
-use Rattle.machine.specs.Seen.{accepted, heardBy, brings as plainBrings, brought as plainBrought, firstBrought as plainFirst}
+use Rattle.machine.specs.Steps.{askedOf, machine, PlainRun}
+use Rattle.machine.specs.Seen.{accepted, heardIn, hears, heard, viewOf as plainViewOf}
 use Rattle.machine.specs.Clauses.{Found as PlainFound, by-desk as plain-desk, by-message as plain-message}
 use Rattle.machine.proofs.Sets.{tally-same, tally-sum, missing-same}
 use Rattle.machine.proofs.Closed.{count-some}
 use Rattle.machine.proofs.Moves.{Seated}
-use Rattle.machine.proofs.Desks.{desk-moved}
-use Rattle.machine.proofs.Restarts.{held, size-next, restarts}
+use Rattle.machine.proofs.Desks.{brings as plainBrings, when-none, desk-moved}
+use Rattle.machine.proofs.Restarts.{brought as plainBrought, held, brings-is, size-next}
 use Rattle.machine.proofs.Clashes.{found-agree}
 use Rattle.machine.proofs.SetRanges.{found-range}
-use Rattle.runs.specs.Steps.{Step, plain, Typed}
-use Rattle.runs.specs.Runs.{ProgramRun, runOf}
-use Rattle.runs.specs.Seen.{ledgerIn, brings, brought, firstBrought, transfersIn}
+use Rattle.runs.specs.Steps.{Step, begin, ask, serve, hear, hear-lent, result, drop, transfer, share, crash, plain, Typed}
+use Rattle.runs.specs.Runs.{asked, ProgramRun, runOf}
+use Rattle.runs.specs.Seen.{ledgerIn, mostOf, transfersIn, viewOf}
 use Rattle.runs.specs.Clauses.{plainRun}
 use Rattle.runs.proofs.Ledgers.{count-below}
+use Rattle.runs.proofs.Steps.{nth-map}
 use Rattle.runs.proofs.Simulation.{stands-at, answer-at}
 use Rattle.runs.proofs.Sheets.{sent-at, sent-carries}
 
@@ -72,49 +73,62 @@ module _ (c : Config) (valid : validOf c ≡ true) (steps : List Step) (typed : 
 
   -- ---- what a step brings
 
-  -- what is counted of a message heard
-  heard-for : (d k i : ℕ) → i < 16 → (st : PlainStep)
-      → when (heardBy d (at p k .sent) st) 0 (λ msg. countOf (ledgerIn c msg) i)
-      ≡ count (when (heardBy d (at r k .sent) st) [] (λ m. m .replica .set)) i
+  -- the transfers of giver i that step k brings to desk d, and the most of them that a step before it brought
+  abbrev bringsOf : ℕ → ℕ → ℕ → ℕ
+  bringsOf d k i = when (hears p d k) 0 (λ msg. countOf (ledgerIn c msg) i)
+
+  abbrev broughtOf : ℕ → ℕ → ℕ → ℕ
+  broughtOf d k i = mostOf c (heard p d k) i
+
+  -- a reply heard has as many transfers of giver i as the machine's
+  reply-for : (d k i : ℕ) → i < 16 → (e q : ℕ)
+      → when (when (nth (at p k .sent) q) none (λ msg. cond (eqb e d) (some msg) none)) 0 (λ msg. countOf (ledgerIn c msg) i)
+      ≡ count (when (when (nth (at r k .sent) q) none (λ m. cond (eqb e d) (some m) none)) [] (λ m. m .replica .set)) i
+  unfolding count tally
+  reply-for d k i l e q = rw (sent-at c valid steps typed k q) (by-place (nth (at r k .sent) q) refl (eqb e d))
+    where
+      by-place : (o : Option Message) → nth (at r k .sent) q ≡ o → (b : Bool)
+          → when (when (when o none (λ m. some (bytesOf c m))) none (λ msg. cond b (some msg) none)) 0 (λ msg. countOf (ledgerIn c msg) i)
+          ≡ count (when (when o none (λ m. cond b (some m) none)) [] (λ m. m .replica .set)) i
+      by-place none f b = refl
+      by-place (some m) f true = ap (λ x. countOf x i) (sent-carries c valid steps typed k q m f) ∙ count-below (m .replica .set) i l
+      by-place (some m) f false = refl
+
+  -- what is counted of the message that a step has a desk hear
+  heard-for : (d k i : ℕ) → i < 16 → (st : Step)
+      → when (heardIn d (at p k .sent) (asked st)) 0 (λ msg. countOf (ledgerIn c msg) i)
+      ≡ count (when (heardIn d (at r k .sent) (askedOf machine c (plain st))) [] (λ m. m .replica .set)) i
   unfolding count tally
   heard-for d k i l (begin e t note) = refl
   heard-for d k i l (ask e j place out) = refl
-  heard-for d k i l (serve j q place out) = refl
+  heard-for d k i l (serve j q place out) =
+      rw (when-none {B = List ℕ} (nth (at p k .sent) q), when-none {B = Message} (nth (at r k .sent) q)) refl
   heard-for d k i l (result e) = refl
   heard-for d k i l (drop e) = refl
   heard-for d k i l (transfer j q amount) = refl
   heard-for d k i l (share j place out) = refl
   heard-for d k i l (crash j) = refl
-  heard-for d k i l (hear e q) = by-desk (eqb e d)
-    where
-      by-place : (o : Option Message) → nth (at r k .sent) q ≡ o
-          → when (when o none (λ m. some (bytesOf c m))) 0 (λ msg. countOf (ledgerIn c msg) i) ≡ count (when o [] (λ m. m .replica .set)) i
-      by-place none f = refl
-      by-place (some m) f =
-          ap (λ x. countOf x i) (sent-carries c valid steps typed k q m f) ∙ count-below (m .replica .set) i l
-
-      by-desk : (b : Bool)
-          → when (cond b (nth (at p k .sent) q) none) 0 (λ msg. countOf (ledgerIn c msg) i)
-          ≡ count (when (cond b (nth (at r k .sent) q) none) [] (λ m. m .replica .set)) i
-      by-desk true = rw (sent-at c valid steps typed k q) (by-place (nth (at r k .sent) q) refl)
-      by-desk false = refl
+  heard-for d k i l (hear e q) = reply-for d k i l e q
+  heard-for d k i l (hear-lent e q) = reply-for d k i l e q
 
   -- of each giver as many as the machine's step
-  pub brings-for : (d k i : ℕ) → i < 16 → brings p d k i ≡ count (plainBrings r d k) i
-  unfolding brings plainBrings count tally
-  brings-for d k i l = rw (answer-at c valid steps typed k) (by-step (nth (map plain steps) k))
+  brings-for : (d k i : ℕ) → i < 16 → bringsOf d k i ≡ count (plainBrings r d k) i
+  unfolding hears count tally
+  brings-for d k i l = rw (answer-at c valid steps typed k, nth-map plain steps k) (by-step (nth steps k))
     where
-      by-answer : (b : Bool) (st : PlainStep)
-          → cond b (when (heardBy d (at p k .sent) st) 0 (λ msg. countOf (ledgerIn c msg) i)) 0
-          ≡ count (cond b (when (heardBy d (at r k .sent) st) [] (λ m. m .replica .set)) []) i
+      by-answer : (b : Bool) (st : Step)
+          → when (cond b (heardIn d (at p k .sent) (asked st)) none) 0 (λ msg. countOf (ledgerIn c msg) i)
+          ≡ count (when (cond b (heardIn d (at r k .sent) (askedOf machine c (plain st))) none) [] (λ m. m .replica .set)) i
       by-answer true st = heard-for d k i l st
       by-answer false st = refl
 
-      by-step : (o : Option PlainStep)
-          → when o 0 (λ st. cond (accepted (answerAt r k)) (when (heardBy d (at p k .sent) st) 0 (λ msg. countOf (ledgerIn c msg) i)) 0)
+      by-step : (o : Option Step)
+          → when (when o none (λ st. cond (accepted (answerAt r k)) (heardIn d (at p k .sent) (asked st)) none)) 0 (λ msg. countOf (ledgerIn c msg) i)
           ≡ count
-          (when o []
-          (λ st. cond (accepted (answerAt r k)) (when (heardBy d (at r k .sent) st) [] (λ m. m .replica .set)) []))
+          (when
+          (when (when o none (λ st. some (plain st))) none
+          (λ st. cond (accepted (answerAt r k)) (heardIn d (at r k .sent) (askedOf machine c st)) none))
+          [] (λ m. m .replica .set))
           i
       by-step none = refl
       by-step (some st) = by-answer (accepted (answerAt r k)) st
@@ -145,24 +159,44 @@ module _ (c : Config) (valid : validOf c ≡ true) (steps : List Step) (typed : 
           → count (union (deskAt r d k .replica .set) (m .replica .set)) i ≡ max (count (deskAt r d k .replica .set) i) (count (m .replica .set) i)
       larger q m e = found-agree c valid (map plain steps) k k _ _ (plain-desk d refl) (plain-message q m e refl) i .counts
 
-  -- so it has what the hears brought
-  pub brought-for : (d k i : ℕ) → i < 16 → brought p d k i ≡ count (deskAt r d k .replica .set) i
-  unfolding brought at count tally
+  -- so it has the most that the hears brought
+  brought-next : (d k i : ℕ) → broughtOf d (suc k) i ≡ max (broughtOf d k i) (bringsOf d k i)
+  unfolding heard
+  brought-next d k i = by-message (hears p d k)
+    where
+      by-message : (o : Option (List ℕ))
+          → mostOf c (when o (heard p d k) (λ msg. msg ∷ heard p d k)) i ≡ max (broughtOf d k i) (when o 0 (λ msg. countOf (ledgerIn c msg) i))
+      by-message none = omega arith
+      by-message (some msg) = refl
+
+  brought-for : (d k i : ℕ) → i < 16 → broughtOf d k i ≡ count (deskAt r d k .replica .set) i
+  unfolding heard at count tally
   brought-for d zero i l = refl
-  brought-for d (suc k) i l = ap₂ {C = ℕ} (λ x y. max x y) (brought-for d k i l) (brings-for d k i l) ∙ sym (count-next d k i)
+  brought-for d (suc k) i l =
+      brought-next d k i ∙ ap₂ {C = ℕ} (λ x y. max x y) (brought-for d k i l) (brings-for d k i l) ∙ sym (count-next d k i)
 
   -- ---- what a step is the first to bring
 
+  -- giver by giver
+  brings-each : (d k : ℕ) → viewOf p .brings d k ≡ sum 16 (λ i. bringsOf d k i - broughtOf d k i)
+  brings-each d k = by-message (hears p d k)
+    where
+      by-message : (o : Option (List ℕ))
+          → when o 0 (λ msg. sum 16 (λ i. countOf (ledgerIn c msg) i - broughtOf d k i))
+          ≡ sum 16 (λ i. when o 0 (λ msg. countOf (ledgerIn c msg) i) - broughtOf d k i)
+      by-message none = sym (sum-zero 16 _ (λ i l. omega arith))
+      by-message (some msg) = refl
+
   -- the counts of a desk's set grow by what the step is the first to bring
   counts-grow : (d k : ℕ)
-      → sum 16 (count (deskAt r d (suc k) .replica .set)) ≡ sum 16 (count (deskAt r d k .replica .set)) + firstBrought p d k
+      → sum 16 (count (deskAt r d (suc k) .replica .set)) ≡ sum 16 (count (deskAt r d k .replica .set)) + viewOf p .brings d k
   counts-grow d k =
-      sum-same 16 _ _
-      (λ i l. omega (arith, count-next d k i, brings-for d k i l, brought-for d k i l))
-      ∙ sum-add 16 (count (deskAt r d k .replica .set)) (λ i. brings p d k i - brought p d k i)
+      sum-same 16 _ _ (λ i l. omega (arith, count-next d k i, brings-for d k i l, brought-for d k i l))
+      ∙ sum-add 16 (count (deskAt r d k .replica .set)) (λ i. bringsOf d k i - broughtOf d k i)
+      ∙ ap (λ x. sum 16 (count (deskAt r d k .replica .set)) + x) (sym (brings-each d k))
 
   -- as many as the machine's set lacked
-  pub first-for : (d k : ℕ) → firstBrought p d k ≡ length (plainFirst r d k)
+  pub first-for : (d k : ℕ) → viewOf p .brings d k ≡ plainViewOf r .brings d k
   first-for d k =
       omega (
         arith,
@@ -170,8 +204,9 @@ module _ (c : Config) (valid : validOf c ≡ true) (steps : List Step) (typed : 
         size-counts k (deskAt r d k .replica .set) (plain-desk d refl),
         size-counts (suc k) (deskAt r d (suc k) .replica .set) (plain-desk d refl),
         size-next c (map plain steps) d k,
+        brings-is c (map plain steps) d k,
         ap (λ a. length a)
-            (missing-same (plainBrought r d k) (deskAt r d k .replica .set) (plainBrings r d k) (held c (map plain steps) d k)),
+            (missing-same (plainBrought c (map plain steps) d k) (deskAt r d k .replica .set) (plainBrings r d k) (held c (map plain steps) d k)),
       )
 
   -- ---- what a desk holds
