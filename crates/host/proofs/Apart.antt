@@ -11,7 +11,6 @@ use lib.Dec.{eqb}
 use lib.IntN.{ℤ, pos, negsuc}
 use lib.Signed.{ltZ}
 use Rattle.quorums.proofs.Tests.{both, le-or-lt, chosen-first}
-use Rattle.quorums.proofs.Sums.{all-each}
 use Rattle.quorums.specs.Accounts.{held, weight}
 use Rattle.quorums.proofs.Differences.{lt-difference, difference-down}
 use Rattle.quorums.proofs.Weights.{above-lt}
@@ -23,13 +22,11 @@ use Rattle.config.specs.declared.answer.Signed.{Signed}
 use Rattle.ledger.specs.Ledgers.{accountsOf, givenOf}
 use Rattle.ledger.specs.Weights.{weightOf, weightAnswer}
 use Rattle.ledger.proofs.Answers.{signed-not-refused}
-use Rattle.ledger.specs.Checks.{aboveFloor}
+use Rattle.ledger.proofs.Majorities.{each-above}
 use Rattle.ledger.specs.declared.ledger.Ledger.{Ledger}
-use Rattle.message.specs.Scans.{endOf, scanOf}
 use Rattle.message.specs.Answers.{check, decode}
-use Rattle.message.proofs.Backs.{require-got}
+use Rattle.message.proofs.Bounds.{passed-above}
 use Rattle.reader.specs.Weighings.{weightIn}
-use Rattle.reader.proofs.Answered.{ledger-found}
 use Rattle.host.specs.Codes.{refusalCode}
 
 -- the refusal k has the code −1,000,000 − k
@@ -37,12 +34,7 @@ pub refusal-is : (r : Refusal) → refusalCode r ≡ negsuc (999999 + numberOf r
 unfolding refusalCode
 refusal-is r = difference-down 0 (1000000 + numberOf r) (omega arith) ∙ ap negsuc (omega arith)
 
--- a message that passes has no weight at the floor
-passed-above : (c : Config) (msg : List ℕ) → validOf c ≡ true → check c msg ≡ 0 → aboveFloor c (scanOf c msg .header .ledger) ≡ true
-unfolding check scanOf endOf
-passed-above c msg v e = require-got _ 4 _ (simp v at e) .0
-
--- and a weight above the floor is above 0
+-- a weight above the floor is above 0
 above-zero : (c : Config) (l : Ledger) (i : ℕ) → aboveOf c (weightOf c l i) ≡ true → ltZ (pos 0) (weightOf c l i) ≡ true
 unfolding aboveOf weightOf weight
 above-zero c l i e =
@@ -54,13 +46,14 @@ above-zero c l i e =
     (λ (h : givenOf l i < held (accountsOf c l) i). omega arith)
     (le-or-lt (held (accountsOf c l) i) (givenOf l i)))
 
+-- A weight is told of a message that passes, and on its sheet all are above the floor.
 pub weight-above : (c : Config) (server : ℕ) (msg : List ℕ) (w : ℤ) → weightIn c server msg ≡ Signed.Value w → ltZ (pos 0) w ≡ true
-unfolding weightIn weightAnswer serverOf aboveFloor
+unfolding weightIn weightAnswer serverOf
 weight-above c server msg w e =
     let passes = chosen-first (eqb (check c msg) 0) _ _ _ (λ d. signed-not-refused _ _ (sym d)) e in
     let none : check c msg ≡ 0 = eqb-true _ _ (passes .0) in
     let known = chosen-first (serverOf c server) _ _ _ (λ d. signed-not-refused _ _ (sym d)) (passes .1) in
     let server-is = both (validOf c) _ (known .0) in
     let told : weightOf c (decode c msg .header .ledger) server ≡ w = cc in
-    let above = all-each (c .n) _ (passed-above c msg (server-is .0) none) server (ltb-true _ _ (server-is .1)) in
-    rw (sym told, ledger-found c msg none) (above-zero c (scanOf c msg .header .ledger) server above)
+    let above = each-above c (decode c msg .header .ledger) (passed-above c msg none) server (ltb-true _ _ (server-is .1)) in
+    rw (sym told) (above-zero c (decode c msg .header .ledger) server above)

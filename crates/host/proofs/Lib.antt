@@ -2,3 +2,4 @@
 pub mod Small
 pub mod Places
 pub mod Apart
+pub mod Published

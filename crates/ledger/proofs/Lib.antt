@@ -9,6 +9,7 @@ pub mod Joins
 pub mod Changes
 pub mod Totals
 pub mod Majorities
+pub mod Published
 pub mod Unions
 pub mod Kept
 pub mod Compared

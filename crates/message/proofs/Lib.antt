@@ -1,5 +1,6 @@
--- Laws. `Faults`: the writer's number is the reader's. `Found`: reading undoes writing. `Rounds`: writing undoes reading. `Longest`: 1,111 bytes.
--- `Numbers`: a verdict has the number that the check found. `Starts` and `Parts` are for the calls on registers and values, `Ranges` for what a call knows of a header.
+-- Laws. `Faults`: the writer's number is the reader's. `Found`: reading undoes writing. `Rounds`: writing undoes reading. `Bounds`: a sheet that the reader
+-- takes is within bounds and not light. `Longest`: 1,111 bytes. `Numbers`: a verdict has the number that the check found. `Starts` and `Parts` are for the
+-- calls on registers and values, `Ranges` for what a call knows of a header.
 -- The others lead there: `Stuck` and `Sticky` say that the first fault stays, `Ahead` to `Registers` go
 -- forwards over bytes that were written, `Backs` to `FieldBacks` back over bytes that were read.
 pub mod Stuck
@@ -22,4 +23,5 @@ pub mod Backs
 pub mod SheetBacks
 pub mod FieldBacks
 pub mod Rounds
+pub mod Bounds
 pub mod Longest

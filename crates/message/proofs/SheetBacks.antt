@@ -23,7 +23,7 @@ use Rattle.message.specs.declared.state.Cursor.{Cursor}
 use Rattle.message.specs.Headers.{Bytes}
 use Rattle.message.specs.Cursors.{readNumber}
 use Rattle.message.specs.Scans.{cellsAfter, cellRead, readCount, cellMapOf, rowCells, rowOf, rowsAfter, countRead, cellOfRow, ledgerRead, sheetOf}
-use Rattle.message.proofs.Sticky.{readNumber-open, require-open, cells-open, row-open, rows-open}
+use Rattle.message.proofs.Sticky.{readNumber-open, require-open, cells-open, row-open, rows-sooner, rows-open}
 use Rattle.message.proofs.Backs.{Passed, moved, at, Got, number-got, number-most, got-mark, own-mark, require-got}
 
 -- ---- cells
@@ -196,15 +196,9 @@ module _ (c : Config) (small : c .n ≤ 16) (msg : List ℕ) (b : Bytes msg) (m 
   rows-passed zero e = moved (sym (append-nil pre)) h
   rows-passed (suc i) e = next-row i e (rows-passed i (row-open c msg i _ _ e)) .1
 
-  sooner : (i n : ℕ) → i ≤ n → rowsAfter c msg m from n .number ≡ 0 → rowsAfter c msg m from i .number ≡ 0
-  unfolding rowsAfter
-  sooner i zero l e = let d : i ≡ 0 = omega arith in rw d e
-  sooner i (suc n) l e =
-      ⊎-elim (λ (d : i ≡ suc n). rw d e) (λ (d : i < suc n). sooner i n (omega arith) (row-open c msg n _ _ e)) (below-suc (omega arith))
-
   row-marks : rowsAfter c msg m from 16 .number ≡ 0 → (i : ℕ) → i < 16
       → stands (rowMark (countRead c msg m from i) (cellOfRow c msg m from i)) ≡ bit m i
-  row-marks e i l = next-row i (sooner (suc i) 16 l e) (rows-passed i (sooner i 16 (omega arith) e)) .0
+  row-marks e i l = next-row i (rows-sooner c msg m from (suc i) 16 l e) (rows-passed i (rows-sooner c msg m from i 16 (omega arith) e)) .0
 
   rows-back : rowsAfter c msg m from 16 .number ≡ 0
       → Passed msg (rowsAfter c msg m from 16) (pre ++ rows (countRead c msg m from) (cellOfRow c msg m from))
@@ -217,7 +211,7 @@ module _ (c : Config) (small : c .n ≤ 16) (msg : List ℕ) (b : Bytes msg) (m 
 
 -- ---- the ledger found
 
-ledger-same : (c : Config) (msg : List ℕ) (m : ℕ) (from : Cursor)
+pub ledger-same : (c : Config) (msg : List ℕ) (m : ℕ) (from : Cursor)
     → SameSheet (countOf (ledgerRead c msg m from)) (countRead c msg m from) (cellOf (ledgerRead c msg m from)) (cellOfRow c msg m from)
 unfolding ledgerRead
 ledger-same c msg m from =

@@ -52,7 +52,7 @@ good-rows c l b i h =
       placed = λ j k. placed-told (c .n) i j (cellOf l i j) k (all-each 256 (cellFits (c .n) l) (t .0) (i * 16 + j) (omega arith));
     }
 
-rows-good : (c : Config) (l : Ledger) → ((i : ℕ) → i < 16 → RowGood (c .n) i (countOf l i) (cellOf l i)) → bounded c l ≡ true
+pub rows-good : (c : Config) (l : Ledger) → ((i : ℕ) → i < 16 → RowGood (c .n) i (countOf l i) (cellOf l i)) → bounded c l ≡ true
 unfolding givenOf
 rows-good c l g =
     told-bounded c l (each-all 256 (cellFits (c .n) l) (λ k h. held k (omega arith) (omega arith))) (each-all 16 (rowFits l) (λ i h. g i h .fits))

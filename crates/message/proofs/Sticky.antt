@@ -1,5 +1,5 @@
 -- Where a number is 0 after a step of a reader, it was 0 before it: a step keeps one that isn't.
-use Prim.Native.Nat.{ℕ, zero, suc}
+use Prim.Native.Nat.{ℕ, zero, suc, _≤_}
 use native.Mathlib.Omega.{arith}
 use mathlib.Core.Path.{_≡_, refl}
 use mathlib.Core.Bool.{Bool}
@@ -32,6 +32,11 @@ cells-open msg m c j e = opened c _ (λ k h. cells-stuck msg m c k h j) e
 
 pub row-open : (c : Config) (msg : List ℕ) (i s : ℕ) (from : Cursor) → rowOf c msg i s from .cursor .number ≡ 0 → from .number ≡ 0
 row-open c msg i s from e = opened from _ (row-stuck c msg i s from) e
+
+-- the same of rows before the last
+pub rows-sooner : (c : Config) (msg : List ℕ) (m : ℕ) (from : Cursor) (i n : ℕ) → i ≤ n → rowsAfter c msg m from n .number ≡ 0
+    → rowsAfter c msg m from i .number ≡ 0
+rows-sooner c msg m from i n l e = opened _ _ (λ k h. rows-stuck c msg m from k i n l h) e
 
 pub rows-open : (c : Config) (msg : List ℕ) (m : ℕ) (from : Cursor) (i : ℕ) → rowsAfter c msg m from i .number ≡ 0 → from .number ≡ 0
 rows-open c msg m from i e = opened from _ (λ k h. rows-stuck c msg m from k 0 i (omega arith) (rows-none c msg m from k h)) e

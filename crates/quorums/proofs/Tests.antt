@@ -2,8 +2,8 @@
 use Prim.Native.Nat.{ℕ, _≤_, _<_}
 use native.Mathlib.Omega.{arith}
 use mathlib.Core.Path.{_≡_, refl, sym, _∙_}
-use mathlib.Core.Logic.{_⊎_, inl, inr, ⊎-elim}
-use mathlib.Core.Bool.{Bool, true, false, cond, not}
+use mathlib.Core.Logic.{_⊎_, inl, inr, ⊎-elim, _↔_}
+use mathlib.Core.Bool.{Bool, true, false, cond, not, false≢true}
 use borrow.Author.Tests.{eq-eqb, ne-eqb, eqb-true, eqb-false, lt-ltb, le-ltb, ltb-true, ltb-false, leb-true, leb-false}
 use lib.Dec.{eqb, leb, ltb}
 
@@ -37,6 +37,11 @@ leb-not a b = by-test (leb a b) refl
     by-test : (t : Bool) → leb a b ≡ t → t ≡ not (ltb b a)
     by-test true e = rw (le-ltb b a (leb-true a b e)) refl
     by-test false e = rw (lt-ltb b a (leb-false a b e)) refl
+
+-- a test that decides a fact is false exactly where the fact does not hold
+pub fails : {P : Type 0} (b : Bool) → (b ≡ true) ↔ P → (b ≡ false) ↔ (P → ⊥)
+fails true h = (λ e. absurd (false≢true (sym e)), λ n. absurd (n (h .0 refl)))
+fails false h = (λ e p. false≢true (h .1 p), λ n. refl)
 
 -- two tests that hold, one after the other
 pub both : (a b : Bool) → cond a b false ≡ true → (a ≡ true) × (b ≡ true)

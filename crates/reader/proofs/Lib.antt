@@ -1,4 +1,4 @@
--- Laws that the proofs cite.
+-- Laws that the proofs cite, and in `Published` what the answers are by the published rule.
 pub mod Numbers
 pub mod Steps
 pub mod Absent
@@ -10,3 +10,4 @@ pub mod Weighed
 pub mod Weights
 pub mod Scanned
 pub mod Answered
+pub mod Published

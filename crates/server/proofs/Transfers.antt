@@ -5,7 +5,7 @@ use native.Mathlib.Omega.{arith}
 use mathlib.Core.Path.{_≡_, refl, sym, ap, _∙_}
 use mathlib.Core.Logic.{⊎-elim}
 use mathlib.Core.Bool.{Bool, true, false, cond}
-use borrow.Author.Tests.{lt-ltb, le-leb, lt-leb, leb-true, ltb-true}
+use borrow.Author.Tests.{lt-ltb, le-ltb, le-leb, lt-leb, leb-true, ltb-true}
 use lib.Dec.{leb, ltb}
 use lib.IntN.{pos, _+ℤ_}
 use Rattle.quorums.specs.Accounts.{held, weight, above}
@@ -154,7 +154,30 @@ pub transfer-done : (s : Server) (j d : ℕ) → fits s ≡ true → Gives s j d
 unfolding transferOf giveOf
 transfer-done s j d e g = simp (e, g .legal, lt-ltb _ _ (g .counted), g .spared)
 
--- and otherwise it is refused, and the record is as it was
+-- otherwise the first test that fails gives the number, 1, 11, 12 or 10, and the record is as it was
+
+pub transfer-unfit : (s : Server) (j d : ℕ) → fits s ≡ false → transferOf s j d ≡ refused (refusal 1) s
+unfolding transferOf
+transfer-unfit s j d e = simp e
+
+pub transfer-unlawful : (s : Server) (j d : ℕ) → fits s ≡ true → lawful (s .config) (s .number) j d ≡ false → transferOf s j d ≡ refused (refusal 11) s
+unfolding transferOf giveOf
+transfer-unlawful s j d e w = simp (e, w)
+
+pub transfer-spent : (s : Server) (j d : ℕ) → fits s ≡ true → lawful (s .config) (s .number) j d ≡ true
+    → mostCount ≤ countOf (s .replica .ledger) (s .number)
+    → transferOf s j d ≡ refused (refusal 12) s
+unfolding transferOf giveOf
+transfer-spent s j d e w h = simp (e, w, le-ltb _ _ h)
+
+pub transfer-unspared : (s : Server) (j d : ℕ) → fits s ≡ true → lawful (s .config) (s .number) j d ≡ true
+    → countOf (s .replica .ledger) (s .number) < mostCount
+    → spares (s .config) (s .replica .ledger) (s .number) d ≡ false
+    → transferOf s j d ≡ refused (refusal 10) s
+unfolding transferOf giveOf
+transfer-unspared s j d e w h p = simp (e, w, lt-ltb _ _ h, p)
+
+-- so it is one or the other
 pub transfer-cases : (P : ServerAnswer → Type 0) (s : Server) (j d : ℕ)
     → (fits s ≡ true → Gives s j d → P (accepted (gave s j d)))
     → ((k : Refusal) → P (refused k s))
