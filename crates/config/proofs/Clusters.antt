@@ -18,7 +18,8 @@ use Rattle.config.specs.Refusals.{refusal}
 use Rattle.config.specs.declared.answer.Refusal.{Refusal}
 use Rattle.config.specs.declared.answer.Number.{Number}
 use Rattle.config.specs.declared.answer.Decision.{Decision}
-use Rattle.config.specs.Cluster.{validOf, serverOf, startOf, totalOf, aboveOf, leastOf, decide, startAnswer, totalAnswer, leastAnswer}
+use Rattle.config.specs.Cluster.{validOf, serverOf, startOf, totalOf, aboveOf, leastOf}
+use Rattle.config.specs.Answers.{decide, startAnswer, totalAnswer, leastAnswer}
 
 -- ---- validity
 

@@ -1,14 +1,11 @@
 -- The cluster's parameters (paper 01, "Sheets": a house has n servers and a crash limit f).
 use Prim.Native.Nat.{ℕ, _+_, _-_, _*_, _/_, _^_}
-use mathlib.Core.Bool.{Bool, true, false, cond}
+use mathlib.Core.Bool.{Bool, false, cond}
 use lib.Dec.{leb, ltb}
 use lib.IntN.{ℤ}
 use Rattle.quorums.specs.Sum.{sum}
 use Rattle.quorums.specs.Accounts.{above}
 use Rattle.config.specs.declared.cluster.Config.{Config}
-use Rattle.config.specs.Refusals.{refusal}
-use Rattle.config.specs.declared.answer.Number.{Number}
-use Rattle.config.specs.declared.answer.Decision.{Decision}
 
 abbrev pub configOf : ℕ → ℕ → Config
 configOf n f = record { n = n; f = f }
@@ -47,21 +44,3 @@ stampBytes c = 4
 
 unfoldable pub mostStamp : Config → ℕ
 mostStamp c = 256 ^ stampBytes c - 1
-
--- What the calls answer: 1 for a cluster out of bounds, and for a server that there isn't.
-
-abbrev pub decide : Bool → Decision
-decide true = Decision.Yes
-decide false = Decision.No
-
-unfoldable pub startAnswer : Config → ℕ → Number
-startAnswer c i = cond (serverOf c i) (Number.Value (startOf c i)) (Number.Refused (refusal 1))
-
-unfoldable pub totalAnswer : Config → Number
-totalAnswer c = cond (validOf c) (Number.Value (totalOf c)) (Number.Refused (refusal 1))
-
-unfoldable pub leastAnswer : Config → Number
-leastAnswer c = cond (validOf c) (Number.Value (leastOf c)) (Number.Refused (refusal 1))
-
-unfoldable pub aboveAnswer : Config → ℤ → Decision
-aboveAnswer c w = cond (validOf c) (decide (aboveOf c w)) (Decision.Refused (refusal 1))

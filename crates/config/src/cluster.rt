@@ -3,7 +3,8 @@ use super::answer::Decision;
 use super::answer::Number;
 use super::answer::Refusal;
 ghost use mathlib.Core.Path.{_≡_};
-ghost use Rattle.config.specs.Cluster.{configOf, validOf, serverOf, stampBytes, mostStamp, startAnswer, totalAnswer, leastAnswer, aboveAnswer};
+ghost use Rattle.config.specs.Cluster.{configOf, validOf, serverOf, stampBytes, mostStamp};
+ghost use Rattle.config.specs.Answers.{startAnswer, totalAnswer, leastAnswer, aboveAnswer};
 
 // Servers 0 to n - 1, of which f may crash.
 #[repr(C)]

@@ -3,7 +3,8 @@ use Prim.Native.Nat.{ℕ}
 use mathlib.Core.Bool.{Bool, true, cond}
 use lib.IntN.{ℤ}
 use Rattle.quorums.specs.Accounts.{weight, weightIn, margin, quorum}
-use Rattle.config.specs.Cluster.{validOf, serverOf, decide}
+use Rattle.config.specs.Cluster.{validOf, serverOf}
+use Rattle.config.specs.Answers.{decide}
 use Rattle.config.specs.declared.cluster.Config.{Config}
 use Rattle.config.specs.Refusals.{refusal}
 use Rattle.config.specs.declared.answer.Number.{Number}

@@ -7,11 +7,11 @@ use mathlib.Core.Option.{Option, none, some}
 use Rattle.config.specs.Cluster.{validOf}
 use Rattle.config.specs.declared.cluster.Config.{Config}
 use Rattle.machine.specs.Runs.{wrote, opened, nth, when, nothing, at}
-use Rattle.machine.specs.Steps.{machine, Step, runOf, PlainState}
+use Rattle.machine.specs.Steps.{machine, Step, runOf}
 use Rattle.machine.proofs.Lists.{nth-in}
 use Rattle.machine.proofs.Histories.{History}
 use Rattle.machine.proofs.Replicas.{good-fresh}
-use Rattle.machine.proofs.Moves.{stepped, giftOf, moved}
+use Rattle.machine.proofs.Moves.{PlainState, stepped, giftOf, moved}
 use Rattle.machine.proofs.Invariant.{Invariant}
 use Rattle.machine.proofs.DesksKept.{begins-kept, drops-kept, asks-kept, restarts-kept, chooses-kept, ends-kept, marks-kept}
 use Rattle.machine.proofs.ServersKept.{crashes-kept, shares-kept, takes-kept, replies-kept}

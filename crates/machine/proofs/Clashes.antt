@@ -15,7 +15,7 @@ use Rattle.machine.specs.Parties.{Replica, reply, Message}
 use Rattle.machine.specs.Runs.{nth, at, deskAt}
 use Rattle.machine.specs.Steps.{Step, runOf, PlainRun, machine}
 use Rattle.machine.specs.Views.{SameTag}
-use Rattle.machine.specs.Clauses.{Found, by-server, by-desk, by-message, Sound}
+use Rattle.machine.specs.Sheets.{Found, by-server, by-desk, by-message, Sound}
 use Rattle.machine.proofs.Lists.{In, nth-in}
 use Rattle.machine.proofs.Histories.{Lawfully, Closed, _⊇_}
 use Rattle.machine.proofs.Closed.{AllOf, part-count}

@@ -12,12 +12,12 @@ use Rattle.machine.specs.Sets.{Transfers, quorumOf}
 use Rattle.machine.specs.Parties.{Register, join, Message, Task, valueOf, first, second, Operation, running, Desk, answered}
 use Rattle.machine.specs.Runs.{Answer, done, wrote, told, put, nth, when, nothing, at, answerAt, deskAt}
 use Rattle.machine.specs.Calls.{mostRound, mostValue, begun, restarted, no-stamp, moved-on, finished, marked, dropped, knows}
-use Rattle.machine.specs.Steps.{machine, Step, begin, hear, askedOf, PlainState, PlainRun, runOf}
+use Rattle.machine.specs.Steps.{machine, Step, begin, hear, askedOf, PlainRun, runOf}
 use Rattle.machine.specs.Seen.{accepted, heardIn, hears, viewOf}
 use Rattle.machine.specs.Views.{Begins}
 use Rattle.machine.proofs.Branches.{branch, Resting}
 use Rattle.machine.proofs.Histories.{History}
-use Rattle.machine.proofs.Moves.{stepped, PlainMade, Heard, moved}
+use Rattle.machine.proofs.Moves.{PlainState, stepped, PlainMade, Heard, moved}
 
 -- a change at i is none elsewhere
 pub put-cases : {A : Type 0} (P : A → Type 0) (f : ℕ → A) (i : ℕ) (a : A) (x : ℕ) → (x ≡ i → P a) → ((x ≡ i → ⊥) → P (f x)) → P (put f i a x)

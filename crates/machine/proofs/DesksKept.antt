@@ -9,8 +9,8 @@ use Rattle.machine.specs.Sets.{Transfers, has}
 use Rattle.machine.specs.Parties.{Register, Replica, join, Kind, request, Message, kindNumber, Task, Operation, Desk}
 use Rattle.machine.specs.Runs.{Answer, done, afterDesk}
 use Rattle.machine.specs.Calls.{accept, begun, requestOf, restarted, moved-on, chosen, finished, marked, dropped}
-use Rattle.machine.specs.Steps.{PlainState}
 use Rattle.machine.specs.Views.{_≼_}
+use Rattle.machine.proofs.Moves.{PlainState}
 use Rattle.machine.proofs.Lists.{In, in-either, in-one, each-append}
 use Rattle.machine.proofs.Outcomes.{Hearing}
 use Rattle.machine.proofs.Tags.{tag-refl, tag-trans, chosen-above}

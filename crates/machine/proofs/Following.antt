@@ -12,7 +12,7 @@ use Rattle.machine.specs.Sets.{Transfers}
 use Rattle.machine.specs.Parties.{Register, Replica, join, request, reply, Message, Operation, Activity, idle, running, ended, Desk}
 use Rattle.machine.specs.Runs.{Answer, done, wrote, afterDesk, afterServer, afterCrash}
 use Rattle.machine.specs.Calls.{accept, begun, requestOf, restarted, moved-on, finished, marked, dropped, replyTo, given-away, served}
-use Rattle.machine.specs.Steps.{Step, PlainState}
+use Rattle.machine.specs.Steps.{Step}
 use Rattle.machine.specs.Views.{_≼_}
 use Rattle.machine.proofs.Lists.{In, in-either, in-one, nth-in}
 use Rattle.machine.proofs.Outcomes.{Hearing, shareOf}
@@ -21,7 +21,7 @@ use Rattle.machine.proofs.Histories.{Gift, History, Closed, Good, _⊇_
 use Rattle.machine.proofs.Closed.{AllOf, closed-more}
 use Rattle.machine.proofs.Joins.{join-left, join-right, join-has-left, join-has-right}
 use Rattle.machine.proofs.Replicas.{good-more}
-use Rattle.machine.proofs.Moves.{stepped, giftBy, giftOf, moved}
+use Rattle.machine.proofs.Moves.{PlainState, stepped, giftBy, giftOf, moved}
 use Rattle.machine.proofs.Desks.{put-cases}
 use Rattle.machine.proofs.Invariant.{Since, Invariant, own-whole}
 use Rattle.machine.proofs.DesksKept.{kinds-apart}

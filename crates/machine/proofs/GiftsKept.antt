@@ -23,7 +23,6 @@ use Rattle.machine.specs.Sets.{Transfer, Transfers, has, tally, count, g
 use Rattle.machine.specs.Parties.{Replica}
 use Rattle.machine.specs.Runs.{done, afterServer, put}
 use Rattle.machine.specs.Calls.{accept, given-away}
-use Rattle.machine.specs.Steps.{PlainState}
 use Rattle.machine.proofs.Lists.{In}
 use Rattle.machine.proofs.Outcomes.{Giving}
 use Rattle.machine.proofs.Tags.{tag-refl}
@@ -31,7 +30,7 @@ use Rattle.machine.proofs.Sets.{test-false, has-first, has-rest, has-ca
 use Rattle.machine.proofs.Histories.{Gift, History, Lawful, Good}
 use Rattle.machine.proofs.Closed.{Started, has-numbered, closed-most}
 use Rattle.machine.proofs.Replicas.{good-more}
-use Rattle.machine.proofs.Moves.{giftBy}
+use Rattle.machine.proofs.Moves.{PlainState, giftBy}
 use Rattle.machine.proofs.Desks.{put-cases}
 use Rattle.machine.proofs.Invariant.{Invariant}
 use Rattle.machine.proofs.ServersKept.{server-kept}

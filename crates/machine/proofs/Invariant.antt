@@ -8,8 +8,8 @@ use Rattle.config.specs.Cluster.{startOf}
 use Rattle.config.specs.declared.cluster.Config.{Config}
 use Rattle.machine.specs.Sets.{Transfers, has}
 use Rattle.machine.specs.Parties.{Register, Replica, reply, share, Message, Phase, first, second, Operation, Activity, idle, running, ended, Desk}
-use Rattle.machine.specs.Steps.{PlainState}
 use Rattle.machine.specs.Views.{_≼_}
+use Rattle.machine.proofs.Moves.{PlainState}
 use Rattle.machine.proofs.Lists.{In}
 use Rattle.machine.proofs.Histories.{Gift, History, Lawfully, Good, Closed}
 use Rattle.machine.proofs.Closed.{AllOf, closed-each}

@@ -13,8 +13,8 @@ use Rattle.config.specs.Cluster.{validOf}
 use Rattle.config.specs.declared.cluster.Config.{Config}
 use Rattle.machine.specs.Sets.{Transfer, Transfers, has, quorumOf}
 use Rattle.machine.specs.Parties.{Register, Replica, join, Message, Operation, answered}
-use Rattle.machine.specs.Steps.{PlainState}
 use Rattle.machine.specs.Views.{_≼_}
+use Rattle.machine.proofs.Moves.{PlainState}
 use Rattle.machine.proofs.Lists.{In}
 use Rattle.machine.proofs.Outcomes.{Hearing}
 use Rattle.machine.proofs.Tags.{tag-trans}

@@ -11,13 +11,17 @@ use lib.ListN.{length}
 use Rattle.config.specs.declared.cluster.Config.{Config}
 use Rattle.machine.specs.Sets.{count, quorumOf}
 use Rattle.machine.specs.Parties.{Register, Replica, join, request, share, Message, Task, valueOf, first, second, Operation, Result, running, ended, Desk, answered}
-use Rattle.machine.specs.Runs.{Answer, unmade, late, refused, done, wrote, told, Outcome, put, nth, nothing, afterServer, onServer, afterDesk, mostDesk, onDesk, afterCrash, onCrash, Made, take}
+use Rattle.machine.specs.Runs.{State, Answer, unmade, late, refused, done, wrote, told, Outcome, put, nth, nothing, afterServer, onServer, afterDesk, mostDesk, onDesk, afterCrash, onCrash, Made, take}
 use Rattle.machine.specs.Calls.{mostRound, mostValue, accept, given-away, replyTo, begun, requestOf, restarted, no-stamp, moved-on, finished, marked, dropped, knows, served}
-use Rattle.machine.specs.Steps.{Step, begin, ask, serve, hear, result, drop, transfer, share, crash, machine, askedOf, PlainState}
+use Rattle.machine.specs.Steps.{Step, begin, ask, serve, hear, result, drop, transfer, share, crash, machine, askedOf}
 use Rattle.machine.specs.Seen.{accepted}
 use Rattle.machine.proofs.Branches.{branch, when-cases, Resting}
 use Rattle.machine.proofs.Outcomes.{sends, Giving, transfer-cases, shareOf, share-cases, serve-cases, begin-cases, ask-cases, Hearing, hear-cases, result-cases, drop-cases}
 use Rattle.machine.proofs.Histories.{Gift, History}
+
+-- a state of the plain machine
+abbrev pub PlainState : Type 0
+PlainState = State Replica Desk Message
 
 -- what a step of the plain machine gives
 abbrev pub PlainMade : Type 0

@@ -13,14 +13,14 @@ use Rattle.machine.specs.Sets.{Transfers}
 use Rattle.machine.specs.Parties.{Register, below, Replica, join, Task, read, write, writes, Phase, first, second, Operation, Result, Activity, idle, running, ended, answered}
 use Rattle.machine.specs.Runs.{nth, when, nothing, at, deskAt}
 use Rattle.machine.specs.Calls.{chosen}
-use Rattle.machine.specs.Steps.{machine, Step, runOf, PlainState, PlainRun}
+use Rattle.machine.specs.Steps.{machine, Step, runOf, PlainRun}
 use Rattle.machine.specs.Seen.{viewOf}
 use Rattle.machine.specs.Views.{Begins, Chose, _≼_, Order}
 use Rattle.machine.proofs.Lists.{nth-in}
 use Rattle.machine.proofs.Tags.{tag-trans, tag-below, write-above, chosen-above}
 use Rattle.machine.proofs.Histories.{History}
 use Rattle.machine.proofs.Replicas.{good-join}
-use Rattle.machine.proofs.Moves.{stepped, giftOf}
+use Rattle.machine.proofs.Moves.{PlainState, stepped, giftOf}
 use Rattle.machine.proofs.Desks.{desk-moved}
 use Rattle.machine.proofs.Phases.{Finish, ends-finish}
 use Rattle.machine.proofs.Places.{from-on}

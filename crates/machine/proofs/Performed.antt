@@ -15,13 +15,13 @@ use Rattle.config.specs.declared.cluster.Config.{Config}
 use Rattle.machine.specs.Parties.{Register, Task, valueOf, Phase, first, second, by-phase, Operation, Result, Activity, idle, running, ended, Desk}
 use Rattle.machine.specs.Runs.{Answer, unmade, late, refused, done, wrote, told, put, nth, when, nothing, mostDesk, onDesk, take, at, answerAt, deskAt}
 use Rattle.machine.specs.Calls.{mostRound, mostValue, begun, beginBy, resultBy}
-use Rattle.machine.specs.Steps.{machine, Step, begin, hear, runOf, PlainState, PlainRun}
+use Rattle.machine.specs.Steps.{machine, Step, begin, hear, runOf, PlainRun}
 use Rattle.machine.specs.Seen.{chosenIn, accepted, viewOf}
 use Rattle.machine.specs.Views.{View, Begins, Current, Ends}
 use Rattle.machine.proofs.Places.{from-on}
 use Rattle.machine.proofs.Branches.{Resting}
 use Rattle.machine.proofs.Outcomes.{begin-cases, result-cases}
-use Rattle.machine.proofs.Moves.{stepped, Seated, on-desk}
+use Rattle.machine.proofs.Moves.{PlainState, stepped, Seated, on-desk}
 use Rattle.machine.proofs.Desks.{put-cases, desk-moved}
 
 -- ---- the last begin before a place, in any run

@@ -13,10 +13,10 @@ use Rattle.config.specs.declared.cluster.Config.{Config}
 use Rattle.machine.specs.Parties.{Register, start, Replica, Message, write, valueOf, second, Operation, Result, running, ended, Desk}
 use Rattle.machine.specs.Runs.{at, deskAt}
 use Rattle.machine.specs.Calls.{mostValue}
-use Rattle.machine.specs.Steps.{Step, runOf, PlainState, PlainRun, machine}
+use Rattle.machine.specs.Steps.{Step, runOf, PlainRun, machine}
 use Rattle.machine.specs.Typed.{Bytes, Typed}
 use Rattle.machine.proofs.Lists.{In}
-use Rattle.machine.proofs.Moves.{Seated}
+use Rattle.machine.proofs.Moves.{PlainState, Seated}
 use Rattle.machine.proofs.Performed.{running-origin, current-unique, chosen-runs}
 use Rattle.machine.proofs.Registers.{write-own}
 use Rattle.machine.proofs.Traces.{Written, Carries, by-server, by-desk, by-operation, by-result, by-message, traced}

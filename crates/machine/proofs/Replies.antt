@@ -12,13 +12,13 @@ use Rattle.machine.specs.Sets.{has, includes}
 use Rattle.machine.specs.Parties.{Replica, join, share, Message, Desk}
 use Rattle.machine.specs.Runs.{done, put, nth, nothing, afterDesk, at, deskAt}
 use Rattle.machine.specs.Calls.{accept, replyTo, served, requestOf}
-use Rattle.machine.specs.Steps.{machine, Step, runOf, PlainState, PlainRun}
+use Rattle.machine.specs.Steps.{machine, Step, runOf, PlainRun}
 use Rattle.machine.proofs.Lists.{In, each-append, each-one, nth-in}
 use Rattle.machine.proofs.Branches.{when-cases}
 use Rattle.machine.proofs.Sets.{union-included}
 use Rattle.machine.proofs.Joins.{join-has-right}
 use Rattle.machine.proofs.Histories.{History, _⊇_}
-use Rattle.machine.proofs.Moves.{stepped, moved}
+use Rattle.machine.proofs.Moves.{PlainState, stepped, moved}
 use Rattle.machine.proofs.Desks.{put-cases}
 use Rattle.machine.proofs.Invariant.{Invariant}
 use Rattle.machine.proofs.DesksKept.{kinds-apart}

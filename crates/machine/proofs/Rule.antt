@@ -22,16 +22,16 @@ use Rattle.machine.specs.Sets.{Transfers, has, union, tally, count, give
 use Rattle.machine.specs.Parties.{Replica, join, Message}
 use Rattle.machine.specs.Runs.{refused, done, put, nth, when, nothing, at, answerAt}
 use Rattle.machine.specs.Calls.{mostCount, accept, refuse, given-away, transferBy}
-use Rattle.machine.specs.Steps.{machine, Step, transfer, runOf, PlainState, PlainRun}
+use Rattle.machine.specs.Steps.{machine, Step, transfer, runOf, PlainRun}
 use Rattle.machine.specs.Seen.{accepted}
-use Rattle.machine.specs.Clauses.{Found}
+use Rattle.machine.specs.Sheets.{Found}
 use Rattle.machine.proofs.Lists.{nth-in}
 use Rattle.machine.proofs.Branches.{when-cases}
 use Rattle.machine.proofs.Outcomes.{transfer-cases}
 use Rattle.machine.proofs.Histories.{Once, _⊇_}
 use Rattle.machine.proofs.Sets.{test-false, union-either, union-left, once-union}
 use Rattle.machine.proofs.Closed.{AllOf, received-part, given-part, closed-total}
-use Rattle.machine.proofs.Moves.{stepped, moved}
+use Rattle.machine.proofs.Moves.{PlainState, stepped, moved}
 use Rattle.machine.proofs.Desks.{put-cases}
 use Rattle.machine.proofs.Invariant.{own-whole}
 use Rattle.machine.proofs.GiftsKept.{weight-next}

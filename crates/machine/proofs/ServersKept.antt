@@ -11,8 +11,8 @@ use Rattle.machine.specs.Sets.{Transfers, has}
 use Rattle.machine.specs.Parties.{Register, Replica, request, reply, share, Message}
 use Rattle.machine.specs.Runs.{Answer, afterServer, afterCrash, put}
 use Rattle.machine.specs.Calls.{accept, replyTo, served}
-use Rattle.machine.specs.Steps.{PlainState}
 use Rattle.machine.specs.Views.{_≼_}
+use Rattle.machine.proofs.Moves.{PlainState}
 use Rattle.machine.proofs.Lists.{In, in-either, in-one, each-append}
 use Rattle.machine.proofs.Outcomes.{shareOf}
 use Rattle.machine.proofs.Tags.{tag-refl, tag-trans}

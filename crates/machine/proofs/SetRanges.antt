@@ -15,7 +15,7 @@ use Rattle.config.proofs.Clusters.{valid-bounds, total-small}
 use Rattle.machine.specs.Sets.{Transfer, Transfers, has, union, tally, count, cell, given, received}
 use Rattle.machine.specs.Calls.{mostCount}
 use Rattle.machine.specs.Steps.{Step, runOf, machine}
-use Rattle.machine.specs.Clauses.{Found}
+use Rattle.machine.specs.Sheets.{Found}
 use Rattle.machine.proofs.Histories.{History, Closed, Lawfully}
 use Rattle.machine.proofs.Sets.{tally-le, tally-zero}
 use Rattle.machine.proofs.Closed.{closed-each, count-none, count-most}

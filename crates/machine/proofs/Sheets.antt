@@ -16,7 +16,7 @@ use Rattle.config.proofs.Clusters.{valid-bounds}
 use Rattle.machine.specs.Sets.{Transfers, has, union, count, accounts, weightOf, quorumOf}
 use Rattle.machine.specs.Runs.{nth, when, at}
 use Rattle.machine.specs.Steps.{Step, runOf, PlainRun, machine}
-use Rattle.machine.specs.Clauses.{Found, by-server, by-desk, by-message, Sound, Sheets}
+use Rattle.machine.specs.Sheets.{Found, by-server, by-desk, by-message, Sound, Sheets}
 use Rattle.machine.proofs.Lists.{In, nth-in}
 use Rattle.machine.proofs.Places.{from-on}
 use Rattle.machine.proofs.Histories.{Gift, History, Closed, Lawfully}

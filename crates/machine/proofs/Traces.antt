@@ -9,12 +9,12 @@ use Rattle.config.specs.declared.cluster.Config.{Config}
 use Rattle.machine.specs.Parties.{Register, start, Replica, join, Message, write, Phase, first, second, Operation, Result, Activity, idle, running, ended, Desk}
 use Rattle.machine.specs.Runs.{put, nth, nothing, at, deskAt}
 use Rattle.machine.specs.Calls.{chosen, served}
-use Rattle.machine.specs.Steps.{machine, Step, runOf, PlainState, PlainRun}
+use Rattle.machine.specs.Steps.{machine, Step, runOf, PlainRun}
 use Rattle.machine.specs.Seen.{viewOf}
 use Rattle.machine.specs.Views.{Current, Chose}
 use Rattle.machine.proofs.Lists.{In, each-append, each-one, nth-in}
 use Rattle.machine.proofs.Branches.{when-cases, task-cases}
-use Rattle.machine.proofs.Moves.{stepped, moved}
+use Rattle.machine.proofs.Moves.{PlainState, stepped, moved}
 use Rattle.machine.proofs.Desks.{put-cases, desk-moved}
 use Rattle.machine.proofs.Performed.{running-origin, runs-chosen}
 use Rattle.machine.proofs.Joins.{join-either}

@@ -14,11 +14,11 @@ use Rattle.config.specs.declared.cluster.Config.{Config}
 use Rattle.machine.specs.Parties.{Register, Replica, join, share, Message, Task, write, valueOf, Phase, second, Operation, Result, Activity, idle, running, ended, Desk}
 use Rattle.machine.specs.Runs.{done, put, nth, nothing, afterDesk, at}
 use Rattle.machine.specs.Calls.{mostRound, mostValue, accept, begun, restarted, no-stamp, chosen, moved-on, finished, marked, dropped}
-use Rattle.machine.specs.Steps.{machine, Step, begin, runOf, PlainState}
+use Rattle.machine.specs.Steps.{machine, Step, begin, runOf}
 use Rattle.machine.specs.Typed.{Bytes, TypedBegin, Typed}
 use Rattle.machine.proofs.Lists.{In, in-left, nth-in, each-append, each-one}
 use Rattle.machine.proofs.Branches.{when-cases}
-use Rattle.machine.proofs.Moves.{stepped, Seated, moved}
+use Rattle.machine.proofs.Moves.{PlainState, stepped, Seated, moved}
 use Rattle.machine.proofs.Desks.{put-cases}
 use Rattle.machine.proofs.DesksKept.{kinds-apart}
 

@@ -7,6 +7,7 @@ pub mod Calls
 pub mod Steps
 pub mod Views
 pub mod Seen
+pub mod Sheets
 pub mod Clauses
 pub mod Typed
 pub mod Linear

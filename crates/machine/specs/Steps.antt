@@ -4,7 +4,7 @@ use Prim.Native.Nat.{ℕ}
 use mathlib.Core.List.{List}
 use Rattle.config.specs.declared.cluster.Config.{Config}
 use Rattle.machine.specs.Parties.{Replica, fresh, Message, Task, Desk, freshDesk}
-use Rattle.machine.specs.Runs.{Outcome, of-server, of-desk, crashing, Asked, call, call-with, State, Run}
+use Rattle.machine.specs.Runs.{Outcome, of-server, of-desk, crashing, Asked, call, call-with, Run}
 use Rattle.machine.specs.Calls.{transferBy, shareBy, serveBy, beginBy, askBy, hearBy, resultBy, dropBy}
 
 -- the calls on what server i or desk d holds
@@ -57,9 +57,6 @@ askedOf p c (share i place size) = call (of-server i (λ r. p .share c i r place
 askedOf p c (crash i) = call (crashing i)
 
 -- servers hold a replica here, and messages are fields
-abbrev pub PlainState : Type 0
-PlainState = State Replica Desk Message
-
 abbrev pub PlainRun : Type 0
 PlainRun = Run Replica Desk Message Step
 

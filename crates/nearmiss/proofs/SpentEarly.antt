@@ -12,7 +12,8 @@ use Rattle.config.specs.declared.cluster.Config.{Config}
 use Rattle.machine.specs.Parties.{fresh, Message, Task, read, first, running, idle, Desk}
 use Rattle.machine.specs.Runs.{refused, done, Outcome, nth, onDesk, take, step}
 use Rattle.machine.specs.Calls.{accept, beginBy, dropBy, mostRound}
-use Rattle.machine.specs.Steps.{Step, begin, drop, machine, PlainState, PlainRun, runOf}
+use Rattle.machine.specs.Steps.{Step, begin, drop, machine, PlainRun, runOf}
+use Rattle.machine.proofs.Moves.{PlainState}
 use Rattle.nearmiss.specs.Steps.{runBy, answersFrom}
 use Rattle.nearmiss.specs.Parts.{withBegin}
 use Rattle.nearmiss.specs.SpentEarly.{beginUntil, spentEarly}

@@ -9,7 +9,7 @@ use Rattle.config.specs.Cluster.{configOf}
 use Rattle.machine.specs.Sets.{Transfer, weightOf}
 use Rattle.machine.specs.Runs.{refused, done, at, answerAt}
 use Rattle.machine.specs.Steps.{Step, transfer, machine, PlainRun}
-use Rattle.machine.specs.Clauses.{by-server, Sheets}
+use Rattle.machine.specs.Sheets.{by-server, Sheets}
 use Rattle.machine.proofs.Computing.{computing}
 use Rattle.nearmiss.specs.Steps.{runBy}
 use Rattle.nearmiss.specs.Unheard.{giftsTo, transferUnheard, unheard}

@@ -5,9 +5,9 @@ use mathlib.Core.Bool.{true, false}
 use mathlib.Core.List.{List, [], _∷_, _++_}
 use Rattle.config.specs.Cluster.{configOf, validOf}
 use Rattle.config.specs.declared.cluster.Config.{Config}
-use Rattle.machine.specs.Parties.{Register, read, Result}
-use Rattle.machine.specs.Runs.{Answer, opened, step, answerAt}
-use Rattle.machine.specs.Steps.{Step, begin, ask, serve, hear, result, transfer, share, Store, machine, PlainState, PlainRun, runOf}
+use Rattle.machine.specs.Parties.{Register, Replica, Message, read, Result, Desk}
+use Rattle.machine.specs.Runs.{State, Answer, opened, step, answerAt}
+use Rattle.machine.specs.Steps.{Step, begin, ask, serve, hear, result, transfer, share, Store, machine, PlainRun, runOf}
 
 -- the run of a store, with n servers of which f may crash
 abbrev pub runBy : Store → ℕ → ℕ → List Step → PlainRun
@@ -46,7 +46,7 @@ abbrev pub written : Register → ℕ → Result
 written g restarts = record { is-write = true; register = g; restarts = restarts }
 
 -- the answers of a run, one after the other (proofs/Answers: answer k is `answerAt` of the run at k)
-unfoldable pub answersFrom : PlainRun → PlainState → List Step → List Answer
+unfoldable pub answersFrom : PlainRun → State Replica Desk Message → List Step → List Answer
 answersFrom r s [] = []
 answersFrom r s (x ∷ l) = let m = step r s x in m .answer ∷ answersFrom r (m .state) l
 

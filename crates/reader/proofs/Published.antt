@@ -9,7 +9,7 @@ use borrow.Author.Tests.{eqb-true}
 use lib.Dec.{eqb}
 use Rattle.quorums.specs.Published.{WeightedMajority, RpIntegrity}
 use Rattle.quorums.proofs.Tests.{chosen-first, fails}
-use Rattle.config.specs.Cluster.{decide}
+use Rattle.config.specs.Answers.{decide}
 use Rattle.config.specs.declared.cluster.Config.{Config}
 use Rattle.config.specs.declared.answer.Decision.{Decision}
 use Rattle.config.proofs.Clusters.{decide-same, decide-not-refused}

@@ -12,7 +12,8 @@ use Rattle.quorums.specs.Difference.{difference}
 use Rattle.quorums.specs.Accounts.{held, weight, total, quorum}
 use Rattle.quorums.proofs.Sums.{all-same, sumIn-same}
 use Rattle.quorums.proofs.Weights.{quorum-is}
-use Rattle.config.specs.Cluster.{validOf, serverOf, startOf, totalOf, aboveOf, startAnswer, totalAnswer, leastAnswer}
+use Rattle.config.specs.Cluster.{validOf, serverOf, startOf, totalOf, aboveOf}
+use Rattle.config.specs.Answers.{startAnswer, totalAnswer, leastAnswer}
 use Rattle.config.specs.declared.cluster.Config.{Config}
 use Rattle.config.specs.declared.answer.Number.{Number}
 use Rattle.config.specs.declared.answer.Refusal.{Refusal}

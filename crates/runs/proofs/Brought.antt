@@ -21,7 +21,7 @@ use Rattle.machine.specs.Parties.{join, Message, bytesOf}
 use Rattle.machine.specs.Runs.{at, answerAt, nth, when, deskAt}
 use Rattle.machine.specs.Steps.{askedOf, machine, PlainRun}
 use Rattle.machine.specs.Seen.{accepted, heardIn, hears, heard, viewOf as plainViewOf}
-use Rattle.machine.specs.Clauses.{Found as PlainFound, by-desk as plain-desk, by-message as plain-message}
+use Rattle.machine.specs.Sheets.{Found as PlainFound, by-desk as plain-desk, by-message as plain-message}
 use Rattle.machine.proofs.Sets.{tally-same, tally-sum, missing-same}
 use Rattle.machine.proofs.Closed.{count-some}
 use Rattle.machine.proofs.Moves.{Seated}
@@ -31,7 +31,7 @@ use Rattle.machine.proofs.Clashes.{found-agree}
 use Rattle.machine.proofs.SetRanges.{found-range}
 use Rattle.runs.specs.Steps.{Step, begin, ask, serve, hear, hear-lent, result, drop, transfer, share, crash, plain, Typed}
 use Rattle.runs.specs.Runs.{asked, ProgramRun, runOf}
-use Rattle.runs.specs.Seen.{ledgerIn, mostOf, transfersIn, viewOf}
+use Rattle.runs.specs.Seen.{ledgerIn, mostOf, viewOf}
 use Rattle.runs.specs.Clauses.{plainRun}
 use Rattle.runs.proofs.Ledgers.{count-below}
 use Rattle.runs.proofs.Steps.{nth-map}
@@ -212,8 +212,8 @@ module _ (c : Config) (valid : validOf c ≡ true) (steps : List Step) (typed : 
   -- ---- what a desk holds
 
   -- the ledger that a desk holds has as many transfers as the machine's set
-  pub transfers-for : (d k : ℕ) → Seated d → transfersIn (deskAt p d k .replica .ledger) ≡ length (deskAt r d k .replica .set)
+  pub transfers-for : (d k : ℕ) → Seated d → sum 16 (countOf (deskAt p d k .replica .ledger)) ≡ length (deskAt r d k .replica .set)
   transfers-for d k seated =
-      ap (λ x. transfersIn (x .replica .ledger)) (stands-at c valid steps typed k .desks d seated)
+      ap (λ x. sum 16 (countOf (x .replica .ledger))) (stands-at c valid steps typed k .desks d seated)
       ∙ sum-same 16 _ _ (count-below (deskAt r d k .replica .set))
       ∙ size-counts k (deskAt r d k .replica .set) (plain-desk d refl)

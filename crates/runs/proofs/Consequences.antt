@@ -6,13 +6,14 @@ use mathlib.Core.Bool.{Bool, true}
 use mathlib.Core.List.{List, map}
 use mathlib.Core.Option.{some}
 use lib.IntN.{pos}
-use Rattle.quorums.specs.Sum.{size}
+use Rattle.quorums.specs.Sum.{sum, size}
 use Rattle.quorums.specs.Accounts.{weightIn}
 use Rattle.config.specs.Cluster.{validOf, aboveOf}
 use Rattle.config.specs.declared.cluster.Config.{Config}
 use Rattle.config.specs.declared.answer.Verdict.{Verdict}
 use Rattle.config.proofs.Clusters.{total-is}
 use Rattle.ledger.specs.declared.ledger.Ledger.{Ledger}
+use Rattle.ledger.specs.Ledgers.{countOf}
 use Rattle.ledger.specs.Maps.{named, mapOf}
 use Rattle.ledger.specs.Weights.{weightOf, allOf, quorumOf}
 use Rattle.replica.specs.Envelopes.{receiveOf}
@@ -21,12 +22,12 @@ use Rattle.machine.specs.Parties.{Message, Result}
 use Rattle.machine.specs.Runs.{nth, told, at, answerAt, deskAt}
 use Rattle.machine.specs.Steps.{result, PlainRun}
 use Rattle.machine.specs.Views.{Order, Values, Results, Tags, Restarts}
-use Rattle.machine.specs.Clauses.{by-server as plain-server, by-desk as plain-desk, by-message as plain-message, Sound as PlainSound}
+use Rattle.machine.specs.Sheets.{by-server as plain-server, by-desk as plain-desk, by-message as plain-message, Sound as PlainSound}
 use Rattle.machine.specs.Linear.{Linear, ByTag}
 use Rattle.machine.proofs.Linear.{linear}
 use Rattle.runs.specs.Steps.{Step, plain, Typed}
 use Rattle.runs.specs.Runs.{ProgramRun, runOf}
-use Rattle.runs.specs.Seen.{ledgerIn, transfersIn, viewOf}
+use Rattle.runs.specs.Seen.{ledgerIn, viewOf}
 use Rattle.runs.specs.Clauses.{plainRun, by-server, by-desk, by-message, Sound, Demand3}
 use Rattle.runs.proofs.Demand3.{demand3}
 
@@ -39,7 +40,7 @@ pub record ToldAfter (p : ProgramRun) (q : ℕ) (x : Result) : Type 0 where
   pub place : ℕ
   pub asked : nth (map plain (p .steps)) q ≡ some (result desk)
   pub earlier : place < q
-  pub most : x .restarts ≤ transfersIn (deskAt p desk (suc place) .replica .ledger)
+  pub most : x .restarts ≤ sum 16 (countOf (deskAt p desk (suc place) .replica .ledger))
 
 -- On a ledger of the program the weights total 1,000 for each server, each is above the floor, and a map of at least n − f servers is a quorum.
 pub record Weighed (c : Config) (l : Ledger) : Type 0 where

@@ -25,8 +25,8 @@ use Rattle.machine.proofs.Moves.{Seated}
 use Rattle.machine.proofs.Clashes.{Joins}
 use Rattle.machine.proofs.WorkRanges.{HeadRange}
 use Rattle.machine.proofs.Ranges.{DeskRange}
-use Rattle.runs.specs.Calls.{heardCalled, hearCall, hearLentCall}
-use Rattle.runs.proofs.Records.{ledgerFor, replicaFor, envelopeFor, operationFor, deskFor, calledFor, Held}
+use Rattle.runs.specs.Calls.{hearCall, hearLentCall}
+use Rattle.runs.proofs.Records.{ledgerFor, replicaFor, envelopeFor, operationFor, deskFor, calledFor, heardCalled, Held}
 use Rattle.runs.proofs.Ledgers.{lacks-for, lacks-none}
 use Rattle.runs.proofs.Messages.{join-for, joinable-for, received-for}
 use Rattle.runs.proofs.Desks.{desk-fits}

@@ -34,7 +34,7 @@ use Rattle.ledger.proofs.Added.{may-hold-placed}
 use Rattle.ledger.proofs.Unions.{same-ledger, later-first, later-second}
 use Rattle.ledger.proofs.Compared.{lacks-nothing}
 use Rattle.machine.specs.Sets.{Transfer, Transfers, includes, union, tally, count, cell, given, received, accounts, weightOf as plainWeight, quorumOf as plainQuorum}
-use Rattle.machine.specs.Clauses.{Sound}
+use Rattle.machine.specs.Sheets.{Sound}
 use Rattle.machine.proofs.SetRanges.{SetRange}
 use Rattle.machine.proofs.Rows.{Agree}
 use Rattle.runs.proofs.Records.{ledgerFor}

@@ -16,18 +16,17 @@ use Rattle.replica.specs.Registers.{startRegister}
 use Rattle.server.specs.declared.record.Server.{Server}
 use Rattle.desk.specs.declared.operation.Operation.{Operation}
 use Rattle.desk.specs.declared.record.Desk.{Desk}
+use Rattle.desk.specs.declared.record.Heard.{Heard}
 use Rattle.desk.specs.Operations.{reading, writing, running as runningMode, ended as endedMode, noOperation}
 use Rattle.desk.specs.Desks.{openOf as openDesk}
 use Rattle.desk.specs.Hears.{marked}
 use Rattle.machine.specs.Sets.{Transfers, count, cell}
 use Rattle.machine.specs.Parties.{Register as PlainRegister, Replica as PlainReplica, Message, kindNumber, bytesOf, Task, by-task, valueOf as taskValue, Phase, by-phase, Activity, idle, running, ended, Desk as PlainDesk, freshDesk}
-use Rattle.machine.specs.Runs.{Outcome}
-use Rattle.machine.specs.Steps.{PlainState}
-use Rattle.machine.specs.Clauses.{Sound}
-use Rattle.machine.proofs.Moves.{Seated}
+use Rattle.machine.specs.Runs.{Outcome, State}
+use Rattle.machine.specs.Sheets.{Sound}
+use Rattle.machine.proofs.Moves.{PlainState, Seated}
 use Rattle.machine.proofs.Ranges.{ReplicaRange}
-use Rattle.runs.specs.Calls.{Called}
-use Rattle.runs.specs.Runs.{ProgramState}
+use Rattle.runs.specs.Calls.{hearingAnswer, Called}
 
 -- ---- what is held
 
@@ -103,12 +102,19 @@ envelopeFor m = record { kind = kindNumber (m .kind); server = m .server; desk =
 abbrev pub calledFor : {A B : Type 0} → Config → (A → B) → Outcome Message A → Called B
 calledFor c f o = record { answer = o .answer; party = f (o .party); sent = map (bytesOf c) (o .sent) }
 
+-- what hearing a message comes to, by value or on a lent record
+abbrev pub heardCalled : Heard → Called Desk
+heardCalled h = record { answer = hearingAnswer (h .hearing); party = h .desk; sent = [] }
+
 -- ---- what the machine's invariant supplies
 
 -- a replica that is held or sent: its fields are within the ranges of the byte table, and its set is not light
 pub record Held (c : Config) (x : PlainReplica) : Type 0 where
   pub range : ReplicaRange c x
   pub sound : Sound c (x .set)
+
+abbrev pub ProgramState : Type 0
+ProgramState = State Server Desk (List ℕ)
 
 -- The program's state t stands for the machine's state s.
 pub record Stands (c : Config) (s : PlainState) (t : ProgramState) : Type 0 where

@@ -20,8 +20,7 @@ use Rattle.machine.specs.Parties.{Register, Replica, join, Message, Task, read,
 use Rattle.machine.specs.Runs.{Outcome, done}
 use Rattle.machine.specs.Calls.{accept, refuse, mostRound, restart, restarted as plainRestarted, chosen, no-stamp, choose, moved-on, finished as plainFinished, mark, marked as plainMarked}
 use Rattle.machine.proofs.SetRanges.{SetRange}
-use Rattle.runs.specs.Calls.{heardCalled}
-use Rattle.runs.proofs.Records.{mapFor, kindFor, phaseFor, registerFor, replicaFor, deskFor, calledFor}
+use Rattle.runs.proofs.Records.{mapFor, kindFor, phaseFor, registerFor, replicaFor, deskFor, calledFor, heardCalled}
 use Rattle.runs.proofs.Ledgers.{quorum-for}
 use Rattle.runs.proofs.Desks.{map-names}
 

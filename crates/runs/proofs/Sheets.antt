@@ -15,7 +15,7 @@ use Rattle.machine.specs.Sets.{Transfers}
 use Rattle.machine.specs.Parties.{Message, bytesOf}
 use Rattle.machine.specs.Runs.{at, nth, when}
 use Rattle.machine.specs.Steps.{PlainRun}
-use Rattle.machine.specs.Clauses.{Found as PlainFound, Sound as PlainSound, by-server as plain-server, by-desk as plain-desk, by-message as plain-message}
+use Rattle.machine.specs.Sheets.{Found as PlainFound, Sound as PlainSound, by-server as plain-server, by-desk as plain-desk, by-message as plain-message}
 use Rattle.machine.proofs.Sheets.{sheets as plain-sheets}
 use Rattle.machine.proofs.SetRanges.{SetRange, found-range}
 use Rattle.runs.specs.Steps.{Step, Typed, plain}

@@ -16,16 +16,16 @@ use Rattle.desk.specs.Operations.{noOperation}
 use Rattle.desk.specs.Desks.{numberLawful, opens, openOf as openDesk}
 use Rattle.machine.specs.Parties.{Replica, Message, bytesOf, Desk as PlainDesk, freshDesk}
 use Rattle.machine.specs.Runs.{done, Outcome, put, nth, when, Made, nothing, onServer, mostDesk, onDesk, onCrash, afterServer, afterDesk, afterCrash, take, opened, step, stepFrom, at, answerAt}
-use Rattle.machine.specs.Steps.{PlainState, PlainRun}
-use Rattle.machine.specs.Clauses.{by-desk, by-message}
+use Rattle.machine.specs.Steps.{PlainRun}
+use Rattle.machine.specs.Sheets.{by-desk, by-message}
 use Rattle.machine.proofs.Lists.{nth-in}
-use Rattle.machine.proofs.Moves.{PlainMade, Seated}
+use Rattle.machine.proofs.Moves.{PlainState, PlainMade, Seated}
 use Rattle.machine.proofs.Clashes.{found-includes, server-joins, desk-joins, own-count, reply-count}
 use Rattle.runs.specs.Steps.{Step, begin, ask, serve, hear, hear-lent, result, drop, transfer, share, crash, plain, Typed}
 use Rattle.runs.specs.Calls.{Called}
-use Rattle.runs.specs.Runs.{ProgramState, ProgramRun, runOf}
+use Rattle.runs.specs.Runs.{ProgramRun, runOf}
 use Rattle.runs.specs.Clauses.{plainRun}
-use Rattle.runs.proofs.Records.{serverFor, deskFor, calledFor, Stands}
+use Rattle.runs.proofs.Records.{serverFor, deskFor, calledFor, ProgramState, Stands}
 use Rattle.runs.proofs.Steps.{nth-map, map-append}
 use Rattle.runs.proofs.Supplied.{server-held, desk-range, desk-held, message-head, message-held}
 use Rattle.runs.proofs.Ledgers.{fresh-for}

@@ -10,7 +10,7 @@ use Rattle.config.specs.declared.cluster.Config.{Config}
 use Rattle.machine.specs.Parties.{Message}
 use Rattle.machine.specs.Runs.{nth, at}
 use Rattle.machine.specs.Steps.{PlainRun}
-use Rattle.machine.specs.Clauses.{by-server, by-desk, by-message}
+use Rattle.machine.specs.Sheets.{by-server, by-desk, by-message}
 use Rattle.machine.proofs.Lists.{nth-in}
 use Rattle.machine.proofs.Sheets.{sheets}
 use Rattle.machine.proofs.WorkRanges.{HeadRange}

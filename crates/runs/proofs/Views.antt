@@ -12,6 +12,7 @@ use Rattle.quorums.specs.Sum.{sum}
 use Rattle.config.specs.Cluster.{validOf}
 use Rattle.config.specs.declared.cluster.Config.{Config}
 use Rattle.config.specs.Refusals.{refusal}
+use Rattle.ledger.specs.Ledgers.{countOf}
 use Rattle.desk.specs.Desks.{numberLawful, accepted, refused, freshDesk, blankDesk, opens, openOf as openDesk}
 use Rattle.machine.specs.Parties.{Register, Phase, first, second, by-phase, Operation, Activity, idle, running, ended, freshDesk as plainFresh}
 use Rattle.machine.specs.Runs.{mostDesk, at, deskAt}
@@ -22,7 +23,7 @@ use Rattle.machine.proofs.Ranges.{RegisterRange}
 use Rattle.runs.specs.Steps.{Step, result, plain, Typed}
 use Rattle.runs.specs.Calls.{plainRegister}
 use Rattle.runs.specs.Runs.{ProgramRun, runOf}
-use Rattle.runs.specs.Seen.{chosenIn, transfersIn, viewOf}
+use Rattle.runs.specs.Seen.{chosenIn, viewOf}
 use Rattle.runs.specs.Clauses.{plainRun}
 use Rattle.runs.proofs.Records.{phaseFor, chosenFor, operationFor}
 use Rattle.runs.proofs.Registers.{register-back}
@@ -89,7 +90,7 @@ module _ (c : Config) (valid : validOf c ≡ true) (steps : List Step) (typed : 
     chosen-none : chosenIn (deskAt p d k .operation) ≡ plainChosen (deskAt r d k .activity)
     chosen-none = rw (idle-record ∙ none-opened, idle-desk) refl
 
-    transfers-none : transfersIn (deskAt p d k .replica .ledger) ≡ length (deskAt r d k .replica .set)
+    transfers-none : sum 16 (countOf (deskAt p d k .replica .ledger)) ≡ length (deskAt r d k .replica .set)
     unfolding sum
     transfers-none = rw (idle-record ∙ none-opened, idle-desk) refl
 

@@ -22,7 +22,6 @@ use Rattle.desk.specs.declared.record.Desk.{Desk}
 use Rattle.desk.specs.declared.record.DeskAnswer.{DeskAnswer}
 use Rattle.desk.specs.declared.record.Hearing.{Hearing}
 use Rattle.desk.specs.declared.record.Hearing.the-variants.{Accepted as HearingAccepted, Late as HearingLate, Refused as HearingRefused}
-use Rattle.desk.specs.declared.record.Heard.{Heard}
 use Rattle.desk.specs.declared.result.Told.{Told}
 use Rattle.desk.specs.Operations.{reading, writing}
 use Rattle.desk.specs.Begins.{beginOf, dropOf}
@@ -86,9 +85,6 @@ writtenCalled x w place = record { answer = numberAnswer (w .answer); party = x;
 abbrev pub servedCalled : Served → ℕ → Called Server
 servedCalled o place = record { answer = numberAnswer (o .answer); party = o .server; sent = sentBy (o .answer) (o .out) place }
 
-abbrev pub heardCalled : Heard → Called Desk
-heardCalled h = record { answer = hearingAnswer (h .hearing); party = h .desk; sent = [] }
-
 -- ---- the calls
 
 unfoldable pub transferCall : Server → ℕ → ℕ → Called Server
@@ -107,7 +103,7 @@ unfoldable pub askCall : Desk → ℕ → ℕ → List ℕ → Called Desk
 askCall x i place out = writtenCalled x (askOf x i out place) place
 
 unfoldable pub hearCall : Desk → List ℕ → Called Desk
-hearCall x msg = heardCalled (hearOf x msg)
+hearCall x msg = record { answer = hearingAnswer (hearOf x msg .hearing); party = hearOf x msg .desk; sent = [] }
 
 -- Hear on the lent record x hands back its answer alone: the party is the record found in the lent place after the call.
 unfoldable pub hearLentCall : Desk → List ℕ → Called Desk

@@ -19,7 +19,7 @@ use Rattle.machine.specs.Runs.{nth, mostDesk, at, answersOf}
 use Rattle.machine.specs.Steps.{machine, PlainRun, runOf as plainRunOf}
 use Rattle.machine.specs.Views.{View, Order, Values, Results, Tags, Restarts}
 use Rattle.machine.specs.Seen.{viewOf as plainViewOf}
-use Rattle.machine.specs.Clauses.{Sheets as PlainSheets}
+use Rattle.machine.specs.Sheets.{Sheets as PlainSheets}
 use Rattle.runs.specs.Steps.{Step, plain, Typed}
 use Rattle.runs.specs.Runs.{ProgramRun, runOf}
 use Rattle.runs.specs.Seen.{ledgerIn, viewOf}
@@ -33,13 +33,6 @@ plainRun r = plainRunOf machine (r .config) (map plain (r .steps))
 -- what is seen of it
 abbrev pub plainView : ProgramRun → View
 plainView r = plainViewOf (plainRun r)
-
--- the bytes of the messages that the first k steps sent, of the program and of the machine, whose bytes are its fields by the byte table
-abbrev pub sentBytes : ProgramRun → ℕ → List (List ℕ)
-sentBytes r k = at r k .sent
-
-abbrev pub plainBytes : ProgramRun → ℕ → List (List ℕ)
-plainBytes r k = map (bytesOf (r .config)) (at (plainRun r) k .sent)
 
 -- ---- sheets
 
@@ -68,7 +61,7 @@ pub record Sheets (r : ProgramRun) : Type 0 where
 pub record Demand3 (r : ProgramRun) : Type 0 where
   -- "Every answer and every sent byte equals that of the plain machine in paper 01."
   pub answers : answersOf r ≡ answersOf (plainRun r)
-  pub bytes : (k : ℕ) → sentBytes r k ≡ plainBytes r k
+  pub bytes : (k : ℕ) → at r k .sent ≡ map (bytesOf (r .config)) (at (plainRun r) k .sent)
   -- So is what is seen of the run: an operation's tag, and what it tells, are the machine's.
   pub seen : viewOf r ≡ plainView r
   -- "If operation A ended before B began, B's tag is no lower than A's, and higher where B writes."

@@ -8,7 +8,7 @@ use Rattle.server.specs.declared.record.Server.{Server}
 use Rattle.server.specs.Servers.{openOf as openServer}
 use Rattle.desk.specs.declared.record.Desk.{Desk}
 use Rattle.desk.specs.Desks.{openOf as openDesk}
-use Rattle.machine.specs.Runs.{of-server, of-desk, crashing, Asked, call, call-with, State, Run}
+use Rattle.machine.specs.Runs.{of-server, of-desk, crashing, Asked, call, call-with, Run}
 use Rattle.runs.specs.Steps.{Step, begin, ask, serve, hear, hear-lent, result, drop, transfer, share, crash}
 use Rattle.runs.specs.Calls.{transferCall, shareCall, serveCall, beginCall, askCall, hearCall, hearLentCall, resultCall, dropCall}
 
@@ -26,9 +26,6 @@ asked (share i place out) = call (of-server i (λ x. shareCall x place out))
 asked (crash i) = call (crashing i)
 
 -- servers and desks are records here, and messages are bytes
-abbrev pub ProgramState : Type 0
-ProgramState = State Server Desk (List ℕ)
-
 abbrev pub ProgramRun : Type 0
 ProgramRun = Run Server Desk (List ℕ) Step
 

@@ -35,10 +35,6 @@ abbrev pub mostOf : Config → List (List ℕ) → ℕ → ℕ
 mostOf c [] i = 0
 mostOf c (msg ∷ l) i = max (mostOf c l i) (countOf (ledgerIn c msg) i)
 
--- how many transfers a ledger has
-abbrev pub transfersIn : Ledger → ℕ
-transfersIn l = sum 16 (countOf l)
-
 -- ---- the whole
 
 abbrev pub viewOf : ProgramRun → View
@@ -49,5 +45,5 @@ viewOf r =
       gives = λ d k. step r (at r k) (result d) .answer;
       chosen = λ d k. chosenIn (deskAt r d k .operation);
       brings = λ d k. when (hears r d k) 0 (λ msg. sum 16 (λ i. countOf (ledgerIn (r .config) msg) i - mostOf (r .config) (heard r d k) i));
-      holds = λ d k. transfersIn (deskAt r d k .replica .ledger);
+      holds = λ d k. sum 16 (countOf (deskAt r d k .replica .ledger));
     }

@@ -8,7 +8,8 @@ use lib.ListN.{replicate, set}
 use Rattle.quorums.specs.Sum.{size, sum, sumℤ, sumIn, all}
 use Rattle.quorums.specs.Difference.{difference}
 use Rattle.quorums.specs.Accounts.{weight, total, weightIn, margin, above}
-use Rattle.config.specs.Cluster.{configOf, validOf, serverOf, startOf, totalOf, aboveOf, leastOf, startAnswer, totalAnswer, leastAnswer, aboveAnswer}
+use Rattle.config.specs.Cluster.{configOf, validOf, serverOf, startOf, totalOf, aboveOf, leastOf}
+use Rattle.config.specs.Answers.{startAnswer, totalAnswer, leastAnswer, aboveAnswer}
 use Rattle.config.specs.declared.cluster.Config.{Config}
 use Rattle.config.specs.Refusals.{refusal}
 use Rattle.config.specs.declared.answer.Number.{Number}

@@ -2,7 +2,7 @@
 use mathlib.Core.Path.{_≡_, refl, sym, _∙_}
 use mathlib.Core.Bool.{Bool, true, false}
 use borrow.Author.Needs.{needs}
-use Rattle.config.specs.Cluster.{decide}
+use Rattle.config.specs.Answers.{decide}
 use Rattle.config.proofs.Clusters.{decide-same, decide-not-refused}
 use Rattle.ledger.specs.Weights.{quorumOf, quorumAnswer}
 use Rattle.desk.proofs.heed.quorate.Statement.{statement}

@@ -9,7 +9,8 @@ use lib.Dec.{leb}
 use lib.ListN.{getD}
 use Rattle.quorums.specs.Sum.{all}
 use Rattle.quorums.proofs.Sums.{all-none, all-next, all-fails}
-use Rattle.config.specs.Cluster.{serverOf, startAnswer, leastAnswer}
+use Rattle.config.specs.Cluster.{serverOf}
+use Rattle.config.specs.Answers.{startAnswer, leastAnswer}
 use Rattle.config.specs.declared.answer.Number.{Number}
 use Rattle.config.proofs.Clusters.{valid-bounds, valid-server}
 use Rattle.reader.proofs.Weights.{start-stands, least-stands, start-bound, least-bound, aboveAt, above-at}

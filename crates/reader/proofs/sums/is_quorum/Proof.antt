@@ -9,7 +9,8 @@ use lib.ListN.{getD}
 use Rattle.quorums.specs.Sum.{sumIn}
 use Rattle.quorums.specs.Accounts as A
 use Rattle.quorums.proofs.Sums.{sumIn-none, sumIn-next}
-use Rattle.config.specs.Cluster.{serverOf, startOf, totalAnswer}
+use Rattle.config.specs.Cluster.{serverOf, startOf}
+use Rattle.config.specs.Answers.{totalAnswer}
 use Rattle.config.specs.declared.answer.Number.{Number}
 use Rattle.config.proofs.Clusters.{valid-bounds, valid-server, start-small, start-told}
 use Rattle.ledger.specs.Maps.{named}

@@ -5,7 +5,7 @@ use mathlib.Core.Path.{_≡_, sym, _∙_}
 use borrow.Author.Needs.{needs}
 use lib.ListN.{getD}
 use mir.Facts.{toZ-ofZ}
-use Rattle.config.specs.Cluster.{startAnswer}
+use Rattle.config.specs.Answers.{startAnswer}
 use Rattle.config.specs.declared.answer.Number.{Number}
 use Rattle.config.proofs.Clusters.{server-small}
 use Rattle.ledger.proofs.Answers.{gap-is, gap-fits}

@@ -3,7 +3,7 @@ use native.Mathlib.Omega.{arith}
 use mir.Facts.{toZ-ofZ}
 use mathlib.Core.Path.{sym, _∙_}
 use borrow.Author.Needs.{needs}
-use Rattle.config.specs.Cluster.{aboveAnswer}
+use Rattle.config.specs.Answers.{aboveAnswer}
 use Rattle.config.proofs.Clusters.{least-small, least-told, least-refused, above-not-less}
 use Rattle.config.proofs.cluster.Config.above_floor.Statement.{statement}
 use Rattle.config.proofs.cluster.Config.above_floor.Tie as tie

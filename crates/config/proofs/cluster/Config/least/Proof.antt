@@ -4,7 +4,8 @@ use native.Mathlib.Nat.{div-le-self}
 use native.Mathlib.Omega.{arith}
 use mathlib.Core.Path.{sym, _∙_}
 use borrow.Author.Needs.{needs}
-use Rattle.config.specs.Cluster.{leastOf, leastAnswer}
+use Rattle.config.specs.Cluster.{leastOf}
+use Rattle.config.specs.Answers.{leastAnswer}
 use Rattle.config.proofs.Clusters.{valid-bounds, total-small, total-told, total-refused}
 use Rattle.config.proofs.cluster.Config.least.Statement.{statement}
 use Rattle.config.proofs.cluster.Config.least.Tie as tie

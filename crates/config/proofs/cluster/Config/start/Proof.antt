@@ -2,7 +2,8 @@
 use mathlib.Core.Path.{sym, _∙_}
 use borrow.Author.Needs.{needs}
 use borrow.Author.Tests.{not-true, not-false}
-use Rattle.config.specs.Cluster.{startOf, startAnswer}
+use Rattle.config.specs.Cluster.{startOf}
+use Rattle.config.specs.Answers.{startAnswer}
 use Rattle.config.proofs.cluster.Config.start.Statement.{statement}
 use Rattle.config.proofs.cluster.Config.start.Tie as tie
 

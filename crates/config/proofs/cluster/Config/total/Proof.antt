@@ -3,7 +3,7 @@ use native.Mathlib.Omega.{arith}
 use mathlib.Core.Path.{sym, _∙_}
 use borrow.Author.Needs.{needs}
 use borrow.Author.Tests.{not-true, not-false}
-use Rattle.config.specs.Cluster.{totalAnswer}
+use Rattle.config.specs.Answers.{totalAnswer}
 use Rattle.config.proofs.Clusters.{valid-bounds, total-is}
 use Rattle.config.proofs.cluster.Config.total.Statement.{statement}
 use Rattle.config.proofs.cluster.Config.total.Tie as tie
