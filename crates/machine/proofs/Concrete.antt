@@ -3,7 +3,7 @@ use Prim.Native.Nat.{ℕ, zero, suc, _<_, _^_}
 use native.Mathlib.Omega.{arith}
 use mathlib.Core.Path.{_≡_, refl, subst}
 use mathlib.Core.Bool.{Bool, true, false, cond, not}
-use mathlib.Core.List.{List, [], _∷_}
+use mathlib.Core.List.{List, [], _∷_, _++_, append-nil}
 use mathlib.Core.Option.{some, Option·none-ne-some, Option·some-injective}
 use borrow.Author.Tests.{leb-true, ltb-true, lt-ltb, eq-eqb}
 use lib.Dec.{eqb, leb, ltb}
@@ -97,12 +97,16 @@ byte-list [] e k = omega arith
 byte-list (x ∷ v) e zero = omega (arith, leb-true x 255 (both (leb x 255) (areBytes v) e .0))
 byte-list (x ∷ v) e (suc k) = byte-list v (both (leb x 255) (areBytes v) e .1) k
 
-pub all-typed : (l : List Step) → typedSteps l ≡ true → Typed l
+-- a list whose steps pass the test, before one that is known to be typed, and alone
+pub typed-before : (l m : List Step) → typedSteps l ≡ true → Typed m → Typed (l ++ m)
 unfolding typedSteps
-all-typed [] e k d t note f = absurd (Option·none-ne-some (begin d t note) f)
-all-typed (st ∷ l) e zero d t note f =
+typed-before [] m e h k d t note f = h k d t note f
+typed-before (st ∷ l) m e h zero d t note f =
     let is : typedStep (begin d t note) ≡ true =
     subst (λ z. typedStep z ≡ true) (Option·some-injective st (begin d t note) f) (both (typedStep st) (typedSteps l) e .0) in
     let b = both (areBytes (valueOf t)) (ltb note (2 ^ 32)) is in
     (byte-list (valueOf t) (b .0), ltb-true note (2 ^ 32) (b .1))
-all-typed (st ∷ l) e (suc k) d t note f = all-typed l (both (typedStep st) (typedSteps l) e .1) k d t note f
+typed-before (st ∷ l) m e h (suc k) d t note f = typed-before l m (both (typedStep st) (typedSteps l) e .1) h k d t note f
+
+pub all-typed : (l : List Step) → typedSteps l ≡ true → Typed l
+all-typed l e = subst Typed (append-nil l) (typed-before l [] e (λ k d t note f. absurd (Option·none-ne-some (begin d t note) f)))

@@ -240,17 +240,37 @@ module _ (v : View) (order : Order v) (values : Values v) (results : Results v) 
 
 -- ---- what follows from any such order
 
--- A read that began after a write had ended returned that write's bytes, or those of a write that comes after it.
-pub later-read : (v : View) (Before : Effect v → Effect v → Type 0) → Linear v Before
-    → (a b : Effect v) (k l : ℕ) (x y : Result) → writes (a .task) ≡ true → Ends v (a .desk) (a .begun) (a .task) k x → k < b .begun
-    → Ends v (b .desk) (b .begun) read l y
-    → (w : LastWrite v Before b (y .register .value)) × (Before a (w .by) ⊎ Same a (w .by))
-later-read v Before lin a b k l x y w ends after read-ends = by-case (lin .reads b l y read-ends)
-  where
-    before : Before a b
-    before = lin .real-time a b k x ends after
+module _ (v : View) (Before : Effect v → Effect v → Type 0) (lin : Linear v Before) where
+  -- It is an order of operations: what shows that one takes effect does not matter.
+  pub one-place : (a b e : Effect v) → Same a b → Before a e → Before b e
+  one-place a b e s p = by-case (lin .total b e)
+    where
+      by-case : Before b e ⊎ (Before e b ⊎ Same b e) → Before b e
+      by-case (inl q) = q
+      by-case (inr (inl q)) = absurd (lin .strict a b (lin .transitive a e b p q) s)
+      by-case (inr (inr q)) = absurd (lin .strict a e p (s .0 ∙ q .0, s .1 ∙ q .1))
 
-    by-case : LastWrite v Before b (y .register .value) ⊎ (Unwritten v Before b × (y .register .value ≡ []))
-        → (w : LastWrite v Before b (y .register .value)) × (Before a (w .by) ⊎ Same a (w .by))
-    by-case (inl u) = (u, u .last a w before)
-    by-case (inr n) = absurd (n .0 a w before)
+  -- the effect of an operation that ended
+  abbrev pub ended : (d i : ℕ) (t : Task) (k : ℕ) (x : Result) → Ends v d i t k x → Effect v
+  ended d i t k x e = record { desk = d; begun = i; task = t; takes = by-end k x e }
+
+  -- A read that began after a write had ended returned that write's bytes, or those of a write that comes after it.
+  pub later-read : (d i : ℕ) (w : List ℕ) (k : ℕ) (x : Result) (e : Ends v d i (write w) k x) (f j l : ℕ) (y : Result) (h : Ends v f j read l y)
+      → k < j
+      → (u : LastWrite v Before (ended f j read l y h) (y .register .value))
+      × (Before (ended d i (write w) k x e) (u .by) ⊎ Same (ended d i (write w) k x e) (u .by))
+  later-read d i w k x e f j l y h after = by-case (lin .reads b l y h)
+    where
+      a : Effect v
+      a = ended d i (write w) k x e
+
+      b : Effect v
+      b = ended f j read l y h
+
+      before : Before a b
+      before = lin .real-time a b k x e after
+
+      by-case : LastWrite v Before b (y .register .value) ⊎ (Unwritten v Before b × (y .register .value ≡ []))
+          → (u : LastWrite v Before b (y .register .value)) × (Before a (u .by) ⊎ Same a (u .by))
+      by-case (inl u) = (u, u .last a refl before)
+      by-case (inr n) = absurd (n .0 a refl before)

@@ -18,20 +18,34 @@ use Rattle.ledger.specs.Maps.{named, mapOf}
 use Rattle.ledger.specs.Weights.{weightOf, allOf, quorumOf}
 use Rattle.replica.specs.Envelopes.{receiveOf}
 use Rattle.machine.specs.Sets.{Transfers, accounts, weightOf as plainWeight, quorumOf as plainQuorum}
-use Rattle.machine.specs.Parties.{Message, Result}
-use Rattle.machine.specs.Runs.{nth, told, at, answerAt, deskAt}
-use Rattle.machine.specs.Steps.{result, PlainRun}
-use Rattle.machine.specs.Views.{Order, Values, Results, Tags, Restarts}
+use Rattle.machine.specs.Parties.{Register, Message, Task, write, Result}
+use Rattle.machine.specs.Runs.{nth, done, told, at, answerAt, deskAt}
+use Rattle.machine.specs.Steps.{begin, result, PlainRun}
+use Rattle.machine.specs.Views.{Current, Chose, Order, Values, Results, Tags, Restarts}
 use Rattle.machine.specs.Sheets.{by-server as plain-server, by-desk as plain-desk, by-message as plain-message, Sound as PlainSound}
 use Rattle.machine.specs.Linear.{Linear, ByTag}
 use Rattle.machine.proofs.Linear.{linear}
 use Rattle.runs.specs.Steps.{Step, plain, Typed}
 use Rattle.runs.specs.Runs.{ProgramRun, runOf}
-use Rattle.runs.specs.Seen.{ledgerIn, viewOf}
+use Rattle.runs.specs.Seen.{chosenIn, ledgerIn, viewOf}
 use Rattle.runs.specs.Clauses.{plainRun, by-server, by-desk, by-message, Sound, Demand3}
 use Rattle.runs.proofs.Demand3.{demand3}
 
 -- ---- written out
+
+-- Desk d began the task t at place i, by an accepted begin, and no other operation before place k.
+pub record Began (p : ProgramRun) (d i : ℕ) (t : Task) (k : ℕ) : Type 0 where
+  pub note : ℕ
+  pub step : nth (map plain (p .steps)) i ≡ some (begin d t note)
+  pub taken : answerAt p i ≡ done
+  pub earlier : i < k
+  pub last : (q : ℕ) (u : Task) (m : ℕ) → i < q → q < k → nth (map plain (p .steps)) q ≡ some (begin d u m) → answerAt p q ≡ done → ⊥
+
+-- and is in phase 2 of it there, with the register g
+pub record Chosen (p : ProgramRun) (d i : ℕ) (t : Task) (g : Register) : Type 0 where
+  pub place : ℕ
+  pub began : Began p d i t place
+  pub phase-two : chosenIn (deskAt p d place .operation) ≡ some g
 
 -- The result x that step q tells is that of a hear of the same desk, at an earlier place, and reports no more restarts than the desk's ledger has
 -- transfers then.
@@ -53,6 +67,19 @@ pub record SetWeighed (c : Config) (a : Transfers) : Type 0 where
   pub total : weightIn (c .n) (accounts c a) (λ i. true) ≡ pos (c .n * 1000)
   pub floor : (i : ℕ) → i < c .n → aboveOf c (plainWeight c a i) ≡ true
   pub majority : (q : ℕ → Bool) → c .n - c .f ≤ size (c .n) q → plainQuorum c a q ≡ true
+
+-- ---- what is seen of it
+
+pub current : {p : ProgramRun} {d i : ℕ} {t : Task} {k : ℕ} → Began p d i t k → Current (viewOf p) d i t k
+current b =
+    record {
+      begun = record { note = b .note; step = b .step; taken = b .taken };
+      earlier = b .earlier;
+      last = λ q u l m w. b .last q u (w .note) l m (w .step) (w .taken);
+    }
+
+pub chose : {p : ProgramRun} {d i : ℕ} {t : Task} {g : Register} → Chosen p d i t g → Chose (viewOf p) d i t g
+chose h = record { place = h .place; current = current (h .began); phase-two = h .phase-two }
 
 -- ---- of every run
 
@@ -86,6 +113,16 @@ module _ (c : Config) (valid : validOf c ≡ true) (steps : List Step) (typed : 
   -- Every run of the program is linearizable.
   pub linearizable : Linear (viewOf p) (ByTag (viewOf p))
   linearizable = linear (viewOf p) own-order own-values own-results own-tags
+
+  -- ---- tags
+
+  -- a write's tag has its desk's number and a stamp of at least 1, and its register the bytes given to its begin
+  pub write-tag : (d i : ℕ) (w : List ℕ) (g : Register) → Chosen p d i (write w) g → (g .desk ≡ d) × (1 ≤ g .stamp) × (g .value ≡ w)
+  write-tag d i w g h = own-tags .own d i w g (chose h)
+
+  -- at whatever places an operation is in phase 2, its register is one
+  pub chosen-once : (d i : ℕ) (t : Task) (g h : Register) → Chosen p d i t g → Chosen p d i t h → g ≡ h
+  chosen-once d i t g h a b = own-tags .once d i t g h (chose a) (chose b)
 
   -- ---- restarts
 

@@ -39,7 +39,7 @@ abbrev steps : List Step
 steps =
     transfer 0 1 100
     ∷ transfer 0 1 50
-    ∷ begin 1 read 0
+    ∷ begin 1 read 4294967295
     ∷ ask 1 0 0 buffer
     ∷ serve 0 0 0 buffer
     ∷ hear 1 1
@@ -64,14 +64,14 @@ answers =
     done
     ∷ done
     ∷ done
-    ∷ wrote 10
-    ∷ wrote 20
+    ∷ wrote 14
+    ∷ wrote 24
     ∷ done
-    ∷ wrote 20
-    ∷ wrote 20
+    ∷ wrote 24
+    ∷ wrote 24
     ∷ done
-    ∷ wrote 20
-    ∷ wrote 20
+    ∷ wrote 24
+    ∷ wrote 24
     ∷ done
     ∷ told unsold
     ∷ []
@@ -80,18 +80,24 @@ answers =
 abbrev sheetBytes : List ℕ
 sheetBytes = 0x00 ∷ 0x01 ∷ 0x00 ∷ 0x02 ∷ 0x00 ∷ 0x02 ∷ 0x00 ∷ 0x00 ∷ 0x00 ∷ 0x96 ∷ []
 
--- the reply that brings the sheet: map, kind, server, desk, round, sheet
+abbrev noteBytes : List ℕ
+noteBytes = 0xFF ∷ 0xFF ∷ 0xFF ∷ 0xFF ∷ []
+
+-- the first request, and the reply that brings the sheet: map, kind, server, desk, round, sheet, note
+abbrev firstRequest : List ℕ
+firstRequest = (0x00 ∷ 0x4F ∷ 0x01 ∷ 0x00 ∷ 0x00 ∷ 0x01 ∷ 0x00 ∷ 0x00 ∷ 0x00 ∷ 0x01 ∷ []) ++ noteBytes
+
 abbrev firstReply : List ℕ
-firstReply = (0x00 ∷ 0x2F ∷ 0x02 ∷ 0x00 ∷ 0x00 ∷ 0x01 ∷ 0x00 ∷ 0x00 ∷ 0x00 ∷ 0x01 ∷ []) ++ sheetBytes
+firstReply = (0x00 ∷ 0x6F ∷ 0x02 ∷ 0x00 ∷ 0x00 ∷ 0x01 ∷ 0x00 ∷ 0x00 ∷ 0x00 ∷ 0x01 ∷ []) ++ sheetBytes ++ noteBytes
 
 abbrev messages : List (List ℕ)
 messages =
-    (0x00 ∷ 0x0F ∷ 0x01 ∷ 0x00 ∷ 0x00 ∷ 0x01 ∷ 0x00 ∷ 0x00 ∷ 0x00 ∷ 0x01 ∷ [])
+    firstRequest
     ∷ firstReply
-    ∷ ((0x00 ∷ 0x2F ∷ 0x01 ∷ 0x01 ∷ 0x00 ∷ 0x01 ∷ 0x00 ∷ 0x00 ∷ 0x00 ∷ 0x02 ∷ []) ++ sheetBytes)
-    ∷ ((0x00 ∷ 0x2F ∷ 0x02 ∷ 0x01 ∷ 0x00 ∷ 0x01 ∷ 0x00 ∷ 0x00 ∷ 0x00 ∷ 0x02 ∷ []) ++ sheetBytes)
-    ∷ ((0x00 ∷ 0x2F ∷ 0x01 ∷ 0x01 ∷ 0x00 ∷ 0x01 ∷ 0x00 ∷ 0x00 ∷ 0x00 ∷ 0x03 ∷ []) ++ sheetBytes)
-    ∷ ((0x00 ∷ 0x2F ∷ 0x02 ∷ 0x01 ∷ 0x00 ∷ 0x01 ∷ 0x00 ∷ 0x00 ∷ 0x00 ∷ 0x03 ∷ []) ++ sheetBytes)
+    ∷ ((0x00 ∷ 0x6F ∷ 0x01 ∷ 0x01 ∷ 0x00 ∷ 0x01 ∷ 0x00 ∷ 0x00 ∷ 0x00 ∷ 0x02 ∷ []) ++ sheetBytes ++ noteBytes)
+    ∷ ((0x00 ∷ 0x6F ∷ 0x02 ∷ 0x01 ∷ 0x00 ∷ 0x01 ∷ 0x00 ∷ 0x00 ∷ 0x00 ∷ 0x02 ∷ []) ++ sheetBytes ++ noteBytes)
+    ∷ ((0x00 ∷ 0x6F ∷ 0x01 ∷ 0x01 ∷ 0x00 ∷ 0x01 ∷ 0x00 ∷ 0x00 ∷ 0x00 ∷ 0x03 ∷ []) ++ sheetBytes ++ noteBytes)
+    ∷ ((0x00 ∷ 0x6F ∷ 0x02 ∷ 0x01 ∷ 0x00 ∷ 0x01 ∷ 0x00 ∷ 0x00 ∷ 0x00 ∷ 0x03 ∷ []) ++ sheetBytes ++ noteBytes)
     ∷ []
 
 valid : validOf two ≡ true
@@ -115,6 +121,11 @@ pub bytes-are : at p 13 .sent ≡ messages
 unfolding computing
 bytes-are = d3 .bytes 13 ∙ refl
 
+-- and before the last ones
+pub first-bytes : at p 6 .sent ≡ firstRequest ∷ firstReply ∷ []
+unfolding computing
+first-bytes = d3 .bytes 6 ∙ refl
+
 -- ---- what is seen of the program's own record
 
 pub record Seen (v : View) : Type 0 where
@@ -135,7 +146,7 @@ seen = subst Seen (sym (d3 .seen)) (record { gives = refl; chosen = refl; brings
 
 plain-ends : Ends (plainView p) 1 2 read 11 unsold
 unfolding computing
-plain-ends = ends-of (plainRun p) 1 2 read 11 unsold 0 5 refl refl refl refl refl refl refl
+plain-ends = ends-of (plainRun p) 1 2 read 11 unsold 4294967295 5 refl refl refl refl refl refl refl
 
 pub ends : Ends (viewOf p) 1 2 read 11 unsold
 ends = subst (λ v. Ends v 1 2 read 11 unsold) (sym (d3 .seen)) plain-ends

@@ -4,7 +4,7 @@ use native.Mathlib.Omega.{arith}
 use mathlib.Core.Path.{_≡_, refl, sym, ap, _∙_, subst}
 use mathlib.Core.Logic.{inl, inr, ⊎-elim}
 use mathlib.Core.Bool.{true, false, true≢false}
-use mathlib.Core.List.{List, [], _∷_, map}
+use mathlib.Core.List.{List, [], _∷_, _++_, map}
 use mathlib.Core.Option.{Option, some}
 use lib.ListN.{replicate}
 use Rattle.quorums.proofs.Tests.{le-or-lt}
@@ -17,13 +17,13 @@ use Rattle.machine.specs.Views.{Begins, Current, Ends, Chose, Source, Told}
 use Rattle.machine.proofs.Computing.{computing}
 use Rattle.machine.proofs.Tags.{lower-below}
 use Rattle.machine.proofs.Performed.{current-unique}
-use Rattle.machine.proofs.Concrete.{ends-of}
+use Rattle.machine.proofs.Concrete.{ends-of, areBytes, typedSteps, typed-before}
 use Rattle.runs.specs.Steps.{Step, begin, ask, serve, hear, hear-lent, plain, Typed}
 use Rattle.runs.specs.Runs.{ProgramRun, runOf}
 use Rattle.runs.specs.Seen.{chosenIn, viewOf}
 use Rattle.runs.specs.Clauses.{plainRun, plainView}
 use Rattle.runs.proofs.Demand3.{demand3}
-use Rattle.runs.proofs.Consequences.{own-order, own-values, own-results, own-tags, own-restarts}
+use Rattle.runs.proofs.Consequences.{Began, Chosen, current, chose, own-order, own-values, own-results, own-tags, own-restarts}
 
 -- ---- the sale
 
@@ -47,9 +47,9 @@ sold = record { stamp = 1; desk = 1; value = sale }
 abbrev pub sale-told : Result
 sale-told = record { is-write = true; register = sold; restarts = 0 }
 
--- it ends at place 6, and is followed by anything
-abbrev pub selling : List Step → List Step
-selling rest =
+-- it ends at place 6
+abbrev sale-steps : List Step
+sale-steps =
     begin 1 (write sale) 0
     ∷ ask 1 0 0 buffer
     ∷ serve 0 0 0 buffer
@@ -57,25 +57,15 @@ selling rest =
     ∷ ask 1 0 0 buffer
     ∷ serve 0 2 0 buffer
     ∷ hear-lent 1 3
-    ∷ rest
+    ∷ []
 
--- ---- operations, written out
+-- and is followed by anything
+abbrev pub selling : List Step → List Step
+selling rest = sale-steps ++ rest
 
--- Desk d began the task t at place i, by an accepted begin, and no other operation before place k.
-pub record Began (p : ProgramRun) (d i : ℕ) (t : Task) (k : ℕ) : Type 0 where
-  pub note : ℕ
-  pub step : nth (map plain (p .steps)) i ≡ some (plain-begin d t note)
-  pub taken : answerAt p i ≡ done
-  pub earlier : i < k
-  pub last : (q : ℕ) (u : Task) (m : ℕ) → i < q → q < k → nth (map plain (p .steps)) q ≡ some (plain-begin d u m) → answerAt p q ≡ done → ⊥
-
-current : {p : ProgramRun} {d i : ℕ} {t : Task} {k : ℕ} → Began p d i t k → Current (viewOf p) d i t k
-current b =
-    record {
-      begun = record { note = b .note; step = b .step; taken = b .taken };
-      earlier = b .earlier;
-      last = λ q u l m w. b .last q u (w .note) l m (w .step) (w .taken);
-    }
+selling-typed : (rest : List Step) → Typed rest → Typed (selling rest)
+unfolding typedSteps areBytes
+selling-typed rest t = typed-before (map plain sale-steps) (map plain rest) refl t
 
 -- no write is begun after place i
 abbrev pub NoWrite : ProgramRun → ℕ → Type 0
@@ -83,7 +73,10 @@ NoWrite p i = (k d : ℕ) (w : List ℕ) (m : ℕ) → i < k → nth (map plain 
 
 -- ---- what follows
 
-module _ (rest : List Step) (typed : Typed (selling rest)) where
+module _ (rest : List Step) (rest-typed : Typed rest) where
+  typed : Typed (selling rest)
+  typed = selling-typed rest rest-typed
+
   abbrev p : ProgramRun
   p = runOf alone (selling rest)
 
@@ -99,11 +92,9 @@ module _ (rest : List Step) (typed : Typed (selling rest)) where
 
   -- An operation that begins after the sale, of whatever desk, and has a tag, running, ended or dropped, has one no lower than (1, 1); a write's is
   -- higher.
-  pub later-tags : (d i k : ℕ) (t : Task) (g : Register) → 6 < i → Began p d i t k → chosenIn (deskAt p d k .operation) ≡ some g
-      → (below g sold ≡ false) × (writes t ≡ true → below sold g ≡ true)
-  later-tags d i k t g l b e =
-      own-order alone valid (selling rest) typed 1 0 6 (write sale) sale-told sold sale-ends sale-chose d i t g l
-      (record { place = k; current = current b; phase-two = e })
+  pub later-tags : (d i : ℕ) (t : Task) (g : Register) → 6 < i → Chosen p d i t g → (below g sold ≡ false) × (writes t ≡ true → below sold g ≡ true)
+  later-tags d i t g l h =
+      own-order alone valid (selling rest) typed 1 0 6 (write sale) sale-told sold sale-ends sale-chose d i t g l (chose h)
 
   -- ---- the one write of the sale
 
@@ -150,10 +141,8 @@ module _ (rest : List Step) (typed : Typed (selling rest)) where
   -- ---- reads
 
   -- a read that begins after the sale, and has a tag, running, ended or dropped, has the sale's register
-  pub later-chosen : NoWrite p 6 → (d i k : ℕ) (g : Register) → 6 < i → Began p d i read k → chosenIn (deskAt p d k .operation) ≡ some g → g ≡ sold
-  later-chosen none d i k g l b e =
-      from-sale none g (later-tags d i k read g l b e .0)
-      (own-values alone valid (selling rest) typed .source d i g (record { place = k; current = current b; phase-two = e }))
+  pub later-chosen : NoWrite p 6 → (d i : ℕ) (g : Register) → 6 < i → Chosen p d i read g → g ≡ sold
+  later-chosen none d i g l h = from-sale none g (later-tags d i read g l h .0) (own-values alone valid (selling rest) typed .source d i g (chose h))
 
   -- The result that a desk is told of a read which it began after the sale is the sale.
   pub later-told : NoWrite p 6 → (d i q : ℕ) (x : Result) → 6 < i → Began p d i read q → nth (map plain (selling rest)) q ≡ some (plain-result d)
@@ -190,8 +179,8 @@ module _ (rest : List Step) (typed : Typed (selling rest)) where
 -- ---- a read of the sale
 
 -- desk 2 reads it, from place 7 to place 13
-abbrev pub reading : List Step → List Step
-reading rest =
+abbrev read-steps : List Step
+read-steps =
     begin 2 read 0
     ∷ ask 2 0 0 buffer
     ∷ serve 0 4 0 buffer
@@ -199,12 +188,22 @@ reading rest =
     ∷ ask 2 0 0 buffer
     ∷ serve 0 6 0 buffer
     ∷ hear 2 7
-    ∷ rest
+    ∷ []
+
+abbrev pub reading : List Step → List Step
+reading rest = read-steps ++ rest
+
+reading-typed : (rest : List Step) → Typed rest → Typed (reading rest)
+unfolding typedSteps areBytes
+reading-typed rest t = typed-before (map plain read-steps) (map plain rest) refl t
 
 abbrev pub read-told : Result
 read-told = record { is-write = false; register = sold; restarts = 0 }
 
-module _ (rest : List Step) (typed : Typed (selling (reading rest))) where
+module _ (rest : List Step) (rest-typed : Typed rest) where
+  read-typed : Typed (selling (reading rest))
+  read-typed = selling-typed (reading rest) (reading-typed rest rest-typed)
+
   abbrev q : ProgramRun
   q = runOf alone (selling (reading rest))
 
@@ -214,18 +213,16 @@ module _ (rest : List Step) (typed : Typed (selling (reading rest))) where
 
   read-ends : Ends (viewOf q) 2 7 read 13 read-told
   read-ends =
-      subst (λ v. Ends v 2 7 read 13 read-told) (sym (demand3 alone valid (selling (reading rest)) typed .seen)) plain-read
+      subst (λ v. Ends v 2 7 read 13 read-told) (sym (demand3 alone valid (selling (reading rest)) read-typed .seen)) plain-read
 
   -- Whatever follows: no other write ever has the tag (1, 1) that was read.
-  pub only-sale : (d i k : ℕ) (w : List ℕ) (h : Register) → Began q d i (write w) k → chosenIn (deskAt q d k .operation) ≡ some h → h .stamp ≡ 1
-      → h .desk ≡ 1
-      → (d ≡ 1) × (i ≡ 0)
-  only-sale d i k w h b e stamp desk =
-      by-source (own-values alone valid (selling (reading rest)) typed .returned 2 7 13 read-told read-ends)
+  pub only-sale : (d i : ℕ) (w : List ℕ) (g : Register) → Chosen q d i (write w) g → g .stamp ≡ 1 → g .desk ≡ 1 → (d ≡ 1) × (i ≡ 0)
+  only-sale d i w g h stamp desk =
+      by-source (own-values alone valid (selling (reading rest)) read-typed .returned 2 7 13 read-told read-ends)
     where
       by-source : Source (viewOf q) sold sale → (d ≡ 1) × (i ≡ 0)
       by-source (inl s) = absurd (omega (arith, s .0))
       by-source (inr o) =
-          let here = o .only 1 0 sale sold (sale-chose (reading rest) typed) (refl, refl) in
-          let there = o .only d i w h (record { place = k; current = current b; phase-two = e }) (stamp, desk) in
+          let here = o .only 1 0 sale sold (sale-chose (reading rest) (reading-typed rest rest-typed)) (refl, refl) in
+          let there = o .only d i w g (chose h) (stamp, desk) in
           (there .0 ∙ sym (here .0), there .1 ∙ sym (here .1))
