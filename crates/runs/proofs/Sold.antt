@@ -11,7 +11,7 @@ use Rattle.quorums.proofs.Tests.{le-or-lt}
 use Rattle.config.specs.Cluster.{configOf, validOf}
 use Rattle.config.specs.declared.cluster.Config.{Config}
 use Rattle.machine.specs.Parties.{Register, below, Task, read, write, writes, Result}
-use Rattle.machine.specs.Runs.{nth, done, told, answerAt, deskAt}
+use Rattle.machine.specs.Runs.{nth, told, answerAt}
 use Rattle.machine.specs.Steps.{Step as PlainStep, begin as plain-begin, result as plain-result}
 use Rattle.machine.specs.Views.{Begins, Current, Ends, Chose, Source, Told}
 use Rattle.machine.proofs.Computing.{computing}
@@ -20,7 +20,7 @@ use Rattle.machine.proofs.Performed.{current-unique}
 use Rattle.machine.proofs.Concrete.{ends-of, areBytes, typedSteps, typed-before}
 use Rattle.runs.specs.Steps.{Step, begin, ask, serve, hear, hear-lent, plain, Typed}
 use Rattle.runs.specs.Runs.{ProgramRun, runOf}
-use Rattle.runs.specs.Seen.{chosenIn, viewOf}
+use Rattle.runs.specs.Seen.{viewOf}
 use Rattle.runs.specs.Clauses.{plainRun, plainView}
 use Rattle.runs.proofs.Demand3.{demand3}
 use Rattle.runs.proofs.Consequences.{Began, Chosen, current, chose, own-order, own-values, own-results, own-tags, own-restarts}
