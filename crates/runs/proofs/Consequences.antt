@@ -2,7 +2,8 @@
 use Prim.Native.Nat.{ℕ, suc, _*_, _-_, _≤_, _<_}
 use native.Mathlib.Omega.{arith}
 use mathlib.Core.Path.{_≡_, refl, sym, ap, _∙_, subst}
-use mathlib.Core.Bool.{Bool, true}
+use mathlib.Core.Logic.{inl, inr}
+use mathlib.Core.Bool.{Bool, true, false, true≢false}
 use mathlib.Core.List.{List, map}
 use mathlib.Core.Option.{some}
 use lib.IntN.{pos}
@@ -18,14 +19,15 @@ use Rattle.ledger.specs.Maps.{named, mapOf}
 use Rattle.ledger.specs.Weights.{weightOf, allOf, quorumOf}
 use Rattle.replica.specs.Envelopes.{receiveOf}
 use Rattle.machine.specs.Sets.{Transfers, accounts, weightOf as plainWeight, quorumOf as plainQuorum}
-use Rattle.machine.specs.Parties.{Register, Message, Task, write, Result}
-use Rattle.machine.specs.Runs.{nth, done, told, at, answerAt, deskAt}
-use Rattle.machine.specs.Steps.{begin, result, PlainRun}
-use Rattle.machine.specs.Views.{Current, Chose, Order, Values, Results, Tags, Restarts}
+use Rattle.machine.specs.Parties.{Register, below, Message, Task, read, write, Result}
+use Rattle.machine.specs.Runs.{nth, done, told, step, at, answerAt, deskAt}
+use Rattle.machine.specs.Steps.{begin, hear, result as plain-result, PlainRun}
+use Rattle.machine.specs.Views.{Current, Ends, Chose, SameTag, Source, Order, Values, Results, Tags, Restarts}
 use Rattle.machine.specs.Sheets.{by-server as plain-server, by-desk as plain-desk, by-message as plain-message, Sound as PlainSound}
 use Rattle.machine.specs.Linear.{Linear, ByTag}
+use Rattle.machine.proofs.Tags.{lower-below}
 use Rattle.machine.proofs.Linear.{linear}
-use Rattle.runs.specs.Steps.{Step, plain, Typed}
+use Rattle.runs.specs.Steps.{Step, result, plain, Typed}
 use Rattle.runs.specs.Runs.{ProgramRun, runOf}
 use Rattle.runs.specs.Seen.{chosenIn, ledgerIn, viewOf}
 use Rattle.runs.specs.Clauses.{plainRun, by-server, by-desk, by-message, Sound, Demand3}
@@ -41,18 +43,35 @@ pub record Began (p : ProgramRun) (d i : ℕ) (t : Task) (k : ℕ) : Type 0 wher
   pub earlier : i < k
   pub last : (q : ℕ) (u : Task) (m : ℕ) → i < q → q < k → nth (map plain (p .steps)) q ≡ some (begin d u m) → answerAt p q ≡ done → ⊥
 
--- and is in phase 2 of it there, with the register g
+-- Step k is a hear of desk d before which a result call would tell nothing and after which it would tell x, of that operation.
+pub record Finished (p : ProgramRun) (d i : ℕ) (t : Task) (k : ℕ) (x : Result) : Type 0 where
+  pub began : Began p d i t k
+  pub message : ℕ
+  pub hears : nth (map plain (p .steps)) k ≡ some (hear d message)
+  pub before : (y : Result) → step p (at p k) (result d) .answer ≡ told y → ⊥
+  pub after : step p (at p (suc k)) (result d) .answer ≡ told x
+
+-- At some place desk d is in phase 2 of it, with the register g.
 pub record Chosen (p : ProgramRun) (d i : ℕ) (t : Task) (g : Register) : Type 0 where
   pub place : ℕ
   pub began : Began p d i t place
   pub phase-two : chosenIn (deskAt p d place .operation) ≡ some g
+
+-- A write of the list, with a tag no lower than that of the register g, was given exactly the bytes of the register h, and h has its tag.
+pub record FromWrite (p : ProgramRun) (g h : Register) : Type 0 where
+  pub desk : ℕ
+  pub begun : ℕ
+  pub register : Register
+  pub chosen : Chosen p desk begun (write (h .value)) register
+  pub tag : SameTag register h
+  pub no-lower : below register g ≡ false
 
 -- The result x that step q tells is that of a hear of the same desk, at an earlier place, and reports no more restarts than the desk's ledger has
 -- transfers then.
 pub record ToldAfter (p : ProgramRun) (q : ℕ) (x : Result) : Type 0 where
   pub desk : ℕ
   pub place : ℕ
-  pub asked : nth (map plain (p .steps)) q ≡ some (result desk)
+  pub asked : nth (map plain (p .steps)) q ≡ some (plain-result desk)
   pub earlier : place < q
   pub most : x .restarts ≤ sum 16 (countOf (deskAt p desk (suc place) .replica .ledger))
 
@@ -68,20 +87,45 @@ pub record SetWeighed (c : Config) (a : Transfers) : Type 0 where
   pub floor : (i : ℕ) → i < c .n → aboveOf c (plainWeight c a i) ≡ true
   pub majority : (q : ℕ → Bool) → c .n - c .f ≤ size (c .n) q → plainQuorum c a q ≡ true
 
--- ---- what is seen of it
+-- ---- the same of what is seen: each way
 
-pub current : {p : ProgramRun} {d i : ℕ} {t : Task} {k : ℕ} → Began p d i t k → Current (viewOf p) d i t k
-current b =
-    record {
-      begun = record { note = b .note; step = b .step; taken = b .taken };
-      earlier = b .earlier;
-      last = λ q u l m w. b .last q u (w .note) l m (w .step) (w .taken);
-    }
+module _ {p : ProgramRun} {d i : ℕ} {t : Task} where
+  pub current : {k : ℕ} → Began p d i t k → Current (viewOf p) d i t k
+  current b =
+      record {
+        begun = record { note = b .note; step = b .step; taken = b .taken };
+        earlier = b .earlier;
+        last = λ q u l m w. b .last q u (w .note) l m (w .step) (w .taken);
+      }
 
-pub chose : {p : ProgramRun} {d i : ℕ} {t : Task} {g : Register} → Chosen p d i t g → Chose (viewOf p) d i t g
-chose h = record { place = h .place; current = current (h .began); phase-two = h .phase-two }
+  pub began : {k : ℕ} → Current (viewOf p) d i t k → Began p d i t k
+  began c =
+      record {
+        note = c .begun .note;
+        step = c .begun .step;
+        taken = c .begun .taken;
+        earlier = c .earlier;
+        last = λ q u m l k s e. c .last q u l k (record { note = m; step = s; taken = e });
+      }
+
+  pub ends : {k : ℕ} {x : Result} → Finished p d i t k x → Ends (viewOf p) d i t k x
+  ends f = record { current = current (f .began); message = f .message; step = f .hears; before = f .before; after = f .after }
+
+  pub finished : {k : ℕ} {x : Result} → Ends (viewOf p) d i t k x → Finished p d i t k x
+  finished e = record { began = began (e .current); message = e .message; hears = e .step; before = e .before; after = e .after }
+
+  pub chose : {g : Register} → Chosen p d i t g → Chose (viewOf p) d i t g
+  chose h = record { place = h .place; current = current (h .began); phase-two = h .phase-two }
+
+  pub chosen : {g : Register} → Chose (viewOf p) d i t g → Chosen p d i t g
+  chosen h = record { place = h .place; began = began (h .current); phase-two = h .phase-two }
 
 -- ---- of every run
+
+-- what is no lower than b, of one tag
+same-low : (g h b : Register) → SameTag g h → below h b ≡ false → below g b ≡ false
+unfolding below
+same-low g h b t low = rw (t .0, t .1) low
 
 module _ (c : Config) (valid : validOf c ≡ true) (steps : List Step) (typed : Typed steps) where
   abbrev p : ProgramRun
@@ -113,6 +157,36 @@ module _ (c : Config) (valid : validOf c ≡ true) (steps : List Step) (typed : 
   -- Every run of the program is linearizable.
   pub linearizable : Linear (viewOf p) (ByTag (viewOf p))
   linearizable = linear (viewOf p) own-order own-values own-results own-tags
+
+  -- ---- reads
+
+  -- Whoever reads after a write has ended finds it, or a later one.
+  pub found-again : (d i k : ℕ) (w : List ℕ) (x : Result) (e j l : ℕ) (y : Result) → Finished p d i (write w) k x → k < j → Finished p e j read l y
+      → FromWrite p (x .register) (y .register)
+  found-again d i k w x e j l y f after h = by-source (own-values .returned e j l y (ends h))
+    where
+      wrote : Chose (viewOf p) d i (write w) (x .register)
+      wrote = own-results .chose d i k (write w) x (ends f)
+
+      low : below (y .register) (x .register) ≡ false
+      low =
+          own-order d i k (write w) x (x .register) (ends f) wrote e j read (y .register) after (own-results .chose e j l read y (ends h)) .0
+
+      -- a write's tag is above the start's
+      above : y .register .stamp ≡ 0 → below (y .register) (x .register) ≡ true
+      above z = lower-below (y .register) (x .register) (inl (omega (arith, own-tags .own d i w (x .register) wrote .1)))
+
+      by-source : Source (viewOf p) (y .register) (y .register .value) → FromWrite p (x .register) (y .register)
+      by-source (inl s) = absurd (true≢false (sym (above (s .0)) ∙ low))
+      by-source (inr o) =
+          record {
+            desk = o .desk;
+            begun = o .begun;
+            register = o .register;
+            chosen = chosen (o .chose);
+            tag = o .tag;
+            no-lower = same-low (o .register) (y .register) (x .register) (o .tag) low;
+          }
 
   -- ---- tags
 

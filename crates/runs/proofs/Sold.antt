@@ -1,29 +1,28 @@
 -- A sale, and whatever follows it: what demand 3 says of every list of steps that begins with it. One server (n = 1, f = 0); desk 1 writes two bytes.
-use Prim.Native.Nat.{ℕ, zero, suc, _≤_, _<_}
+use Prim.Native.Nat.{ℕ, zero, suc, _<_}
 use native.Mathlib.Omega.{arith}
 use mathlib.Core.Path.{_≡_, refl, sym, ap, _∙_, subst}
-use mathlib.Core.Logic.{inl, inr, ⊎-elim}
+use mathlib.Core.Logic.{inl, inr}
 use mathlib.Core.Bool.{true, false, true≢false}
 use mathlib.Core.List.{List, [], _∷_, _++_, map}
 use mathlib.Core.Option.{Option, some}
 use lib.ListN.{replicate}
-use Rattle.quorums.proofs.Tests.{le-or-lt}
 use Rattle.config.specs.Cluster.{configOf, validOf}
 use Rattle.config.specs.declared.cluster.Config.{Config}
 use Rattle.machine.specs.Parties.{Register, below, Task, read, write, writes, Result}
 use Rattle.machine.specs.Runs.{nth, told, answerAt}
 use Rattle.machine.specs.Steps.{Step as PlainStep, begin as plain-begin, result as plain-result}
-use Rattle.machine.specs.Views.{Begins, Current, Ends, Chose, Source, Told}
+use Rattle.machine.specs.Views.{Current, Ends, Chose, Source, Told}
 use Rattle.machine.proofs.Computing.{computing}
 use Rattle.machine.proofs.Tags.{lower-below}
 use Rattle.machine.proofs.Performed.{current-unique}
-use Rattle.machine.proofs.Concrete.{ends-of, areBytes, typedSteps, typed-before}
-use Rattle.runs.specs.Steps.{Step, begin, ask, serve, hear, hear-lent, plain, Typed}
+use Rattle.machine.proofs.Concrete.{ends-of, chose-of, areBytes, typedSteps, typed-before, all-typed}
+use Rattle.runs.specs.Steps.{Step, begin, ask, serve, hear, hear-lent, drop, plain, Typed}
 use Rattle.runs.specs.Runs.{ProgramRun, runOf}
 use Rattle.runs.specs.Seen.{viewOf}
 use Rattle.runs.specs.Clauses.{plainRun, plainView}
 use Rattle.runs.proofs.Demand3.{demand3}
-use Rattle.runs.proofs.Consequences.{Began, Chosen, current, chose, own-order, own-values, own-results, own-tags, own-restarts}
+use Rattle.runs.proofs.Consequences.{Began, Chosen, current, chose, chosen, own-order, own-values, own-results, own-tags, own-restarts}
 
 -- ---- the sale
 
@@ -67,9 +66,9 @@ selling-typed : (rest : List Step) → Typed rest → Typed (selling rest)
 unfolding typedSteps areBytes
 selling-typed rest t = typed-before (map plain sale-steps) (map plain rest) refl t
 
--- no write is begun after place i
-abbrev pub NoWrite : ProgramRun → ℕ → Type 0
-NoWrite p i = (k d : ℕ) (w : List ℕ) (m : ℕ) → i < k → nth (map plain (p .steps)) k ≡ some (plain-begin d (write w) m) → ⊥
+-- no write is begun but at place 0
+abbrev pub NoOther : ProgramRun → Type 0
+NoOther p = (k d : ℕ) (w : List ℕ) (m : ℕ) → 0 < k → nth (map plain (p .steps)) k ≡ some (plain-begin d (write w) m) → ⊥
 
 -- ---- what follows
 
@@ -98,31 +97,19 @@ module _ (rest : List Step) (rest-typed : Typed rest) where
 
   -- ---- the one write of the sale
 
-  -- a write begun no later than the sale's end is the sale
-  only-begin : (k d : ℕ) (w : List ℕ) (m : ℕ) → k ≤ 6 → nth (map plain (selling rest)) k ≡ some (plain-begin d (write w) m)
+  -- where no other is begun, a write is the sale
+  only-begin : NoOther p → (k d : ℕ) (w : List ℕ) (m : ℕ) → nth (map plain (selling rest)) k ≡ some (plain-begin d (write w) m)
       → (d ≡ 1) × (k ≡ 0) × (w ≡ sale)
-  only-begin zero d w m l e = (cc, refl, cc)
-  only-begin (suc zero) d w m l e = let z : _≡_ {A = ℕ} 0 1 = cc in absurd (omega arith)
-  only-begin (suc (suc zero)) d w m l e = let z : _≡_ {A = ℕ} 0 1 = cc in absurd (omega arith)
-  only-begin (suc (suc (suc zero))) d w m l e = let z : _≡_ {A = ℕ} 0 1 = cc in absurd (omega arith)
-  only-begin (suc (suc (suc (suc zero)))) d w m l e = let z : _≡_ {A = ℕ} 0 1 = cc in absurd (omega arith)
-  only-begin (suc (suc (suc (suc (suc zero))))) d w m l e = let z : _≡_ {A = ℕ} 0 1 = cc in absurd (omega arith)
-  only-begin (suc (suc (suc (suc (suc (suc zero)))))) d w m l e = let z : _≡_ {A = ℕ} 0 1 = cc in absurd (omega arith)
-  only-begin (suc (suc (suc (suc (suc (suc (suc k))))))) d w m l e = absurd (omega arith)
+  only-begin none zero d w m e = (cc, refl, cc)
+  only-begin none (suc k) d w m e = absurd (none (suc k) d w m (omega arith) e)
 
-  -- So, where no write is begun after the sale, a register that is no start's and comes from a write is the sale's.
-  from-sale : NoWrite p 6 → (g : Register) → below g sold ≡ false → Source (viewOf p) g (g .value) → g ≡ sold
+  -- so a register that is no start's and comes from a write is the sale's
+  from-sale : NoOther p → (g : Register) → below g sold ≡ false → Source (viewOf p) g (g .value) → g ≡ sold
   from-sale none g low (inl s) = absurd (true≢false (sym (lower-below g sold (inl (omega (arith, s .0)))) ∙ low))
   from-sale none g low (inr o) = λ i. record { stamp = stamp i; desk = desk i; value = is .2 i }
     where
-      b : Begins (viewOf p) (o .desk) (o .begun) (write (g .value))
-      b = o .chose .current .begun
-
       is : (o .desk ≡ 1) × (o .begun ≡ 0) × (g .value ≡ sale)
-      is =
-          ⊎-elim (λ (l : o .begun ≤ 6). only-begin (o .begun) (o .desk) (g .value) (b .note) l (b .step))
-          (λ (l : 6 < o .begun). absurd (none (o .begun) (o .desk) (g .value) (b .note) l (b .step)))
-          (le-or-lt (o .begun) 6)
+      is = let b = o .chose .current .begun in only-begin none (o .begun) (o .desk) (g .value) (b .note) (b .step)
 
       one : o .register ≡ sold
       one =
@@ -140,12 +127,12 @@ module _ (rest : List Step) (rest-typed : Typed rest) where
 
   -- ---- reads
 
-  -- a read that begins after the sale, and has a tag, running, ended or dropped, has the sale's register
-  pub later-chosen : NoWrite p 6 → (d i : ℕ) (g : Register) → 6 < i → Chosen p d i read g → g ≡ sold
+  -- where no other write is begun, a read that begins after the sale, and has a tag, running, ended or dropped, has the sale's register
+  pub later-chosen : NoOther p → (d i : ℕ) (g : Register) → 6 < i → Chosen p d i read g → g ≡ sold
   later-chosen none d i g l h = from-sale none g (later-tags d i read g l h .0) (own-values alone valid (selling rest) typed .source d i g (chose h))
 
-  -- The result that a desk is told of a read which it began after the sale is the sale.
-  pub later-told : NoWrite p 6 → (d i q : ℕ) (x : Result) → 6 < i → Began p d i read q → nth (map plain (selling rest)) q ≡ some (plain-result d)
+  -- Where no other write is begun, the result that a desk is told of a read which it began after the sale is the sale.
+  pub later-told : NoOther p → (d i q : ℕ) (x : Result) → 6 < i → Began p d i read q → nth (map plain (selling rest)) q ≡ some (plain-result d)
       → answerAt p q ≡ told x
       → (x .is-write ≡ false) × (x .register ≡ sold)
   later-told none d i q x l b s e = (
@@ -226,3 +213,36 @@ module _ (rest : List Step) (rest-typed : Typed rest) where
           let here = o .only 1 0 sale sold (sale-chose (reading rest) (reading-typed rest rest-typed)) (refl, refl) in
           let there = o .only d i w g (chose h) (stamp, desk) in
           (there .0 ∙ sym (here .0), there .1 ∙ sym (here .1))
+
+-- ---- two desks, one after the other
+
+-- the other block, of which all sixteen seats are sold, and its register
+abbrev other : List ℕ
+other = 255 ∷ 255 ∷ []
+
+abbrev over : Register
+over = record { stamp = 2; desk = 2; value = other }
+
+-- after the sale desk 2 begins a write, at place 7, has a tag after place 10, and drops it
+abbrev drop-steps : List Step
+drop-steps = begin 2 (write other) 0 ∷ ask 2 0 0 buffer ∷ serve 0 4 0 buffer ∷ hear 2 5 ∷ drop 2 ∷ []
+
+drop-typed : Typed drop-steps
+unfolding typedSteps areBytes
+drop-typed = all-typed (map plain drop-steps) refl
+
+abbrev o : ProgramRun
+o = runOf alone (selling drop-steps)
+
+plain-dropped : Chose (plainView o) 2 7 (write other) over
+unfolding computing
+plain-dropped = chose-of (plainRun o) 2 7 (write other) 11 over 0 refl refl refl refl refl
+
+-- it chose, and was dropped; and its tag is above the sale's
+pub dropped-chosen : Chosen o 2 7 (write other) over
+dropped-chosen =
+    chosen
+    (subst (λ v. Chose v 2 7 (write other) over) (sym (demand3 alone valid (selling drop-steps) (selling-typed drop-steps drop-typed) .seen)) plain-dropped)
+
+pub dropped-higher : below sold over ≡ true
+dropped-higher = later-tags drop-steps drop-typed 2 7 (write other) over (omega arith) dropped-chosen .1 refl

@@ -62,7 +62,7 @@ pub record Demand3 (r : ProgramRun) : Type 0 where
   -- "Every answer and every sent byte equals that of the plain machine in paper 01."
   pub answers : answersOf r ≡ answersOf (plainRun r)
   pub bytes : (k : ℕ) → at r k .sent ≡ map (bytesOf (r .config)) (at (plainRun r) k .sent)
-  -- So is what is seen of the run: an operation's tag, and what it tells, are the machine's.
+  -- what is seen of the run is the machine's too: an operation's tag, what it tells, and the transfers that its desk is brought and holds
   pub seen : viewOf r ≡ plainView r
   -- "If operation A ended before B began, B's tag is no lower than A's, and higher where B writes."
   pub order : Order (plainView r)
