@@ -13,6 +13,11 @@ Resting idle = Unit
 Resting (running o) = ⊥
 Resting (ended r) = Unit
 
+-- of each element none
+pub when-none : {A B : Type 0} (o : Option A) → when {B = Option B} o none (λ x. none) ≡ none
+when-none none = refl
+when-none (some x) = refl
+
 module _ {A : Type 0} (P : A → Type 0) where
   -- a test
   pub branch : (b : Bool) (x y : A) → (b ≡ true → P x) → (b ≡ false → P y) → P (cond b x y)

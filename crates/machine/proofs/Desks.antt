@@ -15,7 +15,7 @@ use Rattle.machine.specs.Calls.{mostRound, mostValue, begun, restarted, 
 use Rattle.machine.specs.Steps.{machine, Step, begin, hear, askedOf, PlainRun, runOf}
 use Rattle.machine.specs.Seen.{accepted, heardIn, hears, viewOf}
 use Rattle.machine.specs.Views.{Begins}
-use Rattle.machine.proofs.Branches.{branch, Resting}
+use Rattle.machine.proofs.Branches.{branch, when-none, Resting}
 use Rattle.machine.proofs.Histories.{History}
 use Rattle.machine.proofs.Moves.{PlainState, stepped, PlainMade, Heard, moved}
 
@@ -49,11 +49,6 @@ pub record DeskMoves (r : PlainRun) (d k : ℕ) (x : Desk) (P : Transfers → De
 -- the transfers that step k brings to desk d
 abbrev pub brings : PlainRun → ℕ → ℕ → Transfers
 brings r d k = when (hears r d k) [] (λ m. m .replica .set)
-
--- of each message none
-pub when-none : {A B : Type 0} (o : Option A) → when {B = Option B} o none (λ x. none) ≡ none
-when-none none = refl
-when-none (some x) = refl
 
 module _ (c : Config) (steps : List Step) (d k : ℕ) (P : Transfers → Desk → Type 0) where
   abbrev r : PlainRun

@@ -4,6 +4,7 @@ use native.Mathlib.Omega.{arith}
 use mathlib.Core.Path.{_≡_, refl, sym, ap, _∙_, subst}
 use mathlib.Core.Logic.{⊎-elim}
 use mathlib.Core.List.{List, [], _∷_, _++_}
+use Rattle.quorums.proofs.Tests.{test-false}
 use Rattle.config.specs.declared.cluster.Config.{Config}
 use Rattle.machine.specs.Sets.{Transfers, has}
 use Rattle.machine.specs.Parties.{Register, Replica, join, Kind, request, Message, kindNumber, Task, Operation, Desk}
@@ -14,7 +15,6 @@ use Rattle.machine.proofs.Moves.{PlainState}
 use Rattle.machine.proofs.Lists.{In, in-either, in-one, each-append}
 use Rattle.machine.proofs.Outcomes.{Hearing}
 use Rattle.machine.proofs.Tags.{tag-refl, tag-trans, chosen-above}
-use Rattle.machine.proofs.Sets.{test-false}
 use Rattle.machine.proofs.Histories.{History, Good, _⊇_}
 use Rattle.machine.proofs.Joins.{join-left, join-has-left, join-has-right}
 use Rattle.machine.proofs.Replicas.{good-join, good-higher}

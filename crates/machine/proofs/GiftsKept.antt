@@ -13,7 +13,7 @@ use lib.IntN.{pos, _-ℤ_}
 use Rattle.quorums.specs.Sum.{sum}
 use Rattle.quorums.specs.Accounts.{weight}
 use Rattle.quorums.specs.Difference.{difference}
-use Rattle.quorums.proofs.Tests.{le-or-lt}
+use Rattle.quorums.proofs.Tests.{test-false, le-or-lt}
 use Rattle.quorums.proofs.Differences.{difference-less, pos-difference}
 use Rattle.quorums.proofs.Weights.{above-is}
 use Rattle.config.specs.Cluster.{validOf, startOf, totalOf, aboveOf}
@@ -26,7 +26,7 @@ use Rattle.machine.specs.Calls.{accept, given-away}
 use Rattle.machine.proofs.Lists.{In}
 use Rattle.machine.proofs.Outcomes.{Giving}
 use Rattle.machine.proofs.Tags.{tag-refl}
-use Rattle.machine.proofs.Sets.{test-false, has-first, has-rest, has-cases}
+use Rattle.machine.proofs.Sets.{has-first, has-rest, has-cases}
 use Rattle.machine.proofs.Histories.{Gift, History, Lawful, Good}
 use Rattle.machine.proofs.Closed.{Started, has-numbered, closed-most}
 use Rattle.machine.proofs.Replicas.{good-more}

@@ -9,46 +9,8 @@ use mathlib.Core.List.{List, []}
 use Rattle.quorums.proofs.Tests.{le-or-lt}
 use Rattle.machine.specs.Parties.{Register, below, Task, read, write, writes, Result}
 use Rattle.machine.specs.Views.{View, Begins, Ends, Chose, SameTag, Order, OneWrite, Source, Values, Results, Tags}
-use Rattle.machine.specs.Linear.{Takes, by-end, by-tag, Effect, Same, LastWrite, Unwritten, Linear, registerOf, rank, ByTag}
-use Rattle.machine.proofs.Tags.{Lower, below-lower, lower-below, below-no-higher, tag-below, below-apart}
-
--- ---- tags
-
--- one of two tags is lower, or they are one
-compare-tags : (a b : Register) → (below a b ≡ true) ⊎ ((below b a ≡ true) ⊎ SameTag a b)
-compare-tags a b = by-stamp (le-or-lt (a .stamp) (b .stamp)) (le-or-lt (b .stamp) (a .stamp))
-  where
-    by-desk : a .stamp ≡ b .stamp → (a .desk ≤ b .desk) ⊎ (b .desk < a .desk) → (b .desk ≤ a .desk) ⊎ (a .desk < b .desk)
-        → (below a b ≡ true) ⊎ ((below b a ≡ true) ⊎ SameTag a b)
-    by-desk s (inl u) (inl w) = inr (inr (s, omega arith))
-    by-desk s (inl u) (inr w) = inl (lower-below a b (inr (s, w)))
-    by-desk s (inr u) w = inr (inl (lower-below b a (inr (sym s, u))))
-
-    by-stamp : (a .stamp ≤ b .stamp) ⊎ (b .stamp < a .stamp) → (b .stamp ≤ a .stamp) ⊎ (a .stamp < b .stamp)
-        → (below a b ≡ true) ⊎ ((below b a ≡ true) ⊎ SameTag a b)
-    by-stamp (inl s) (inl t) = by-desk (omega arith) (le-or-lt (a .desk) (b .desk)) (le-or-lt (b .desk) (a .desk))
-    by-stamp (inl s) (inr t) = inl (lower-below a b (inl t))
-    by-stamp (inr s) t = inr (inl (lower-below b a (inl s)))
-
-same-sym : (a b : Register) → SameTag a b → SameTag b a
-same-sym a b s = (sym (s .0), sym (s .1))
-
-same-trans : (a b e : Register) → SameTag a b → SameTag b e → SameTag a e
-same-trans a b e s t = (s .0 ∙ t .0, s .1 ∙ t .1)
-
-below-same : (a b e : Register) → below a b ≡ true → SameTag b e → below a e ≡ true
-below-same a b e p q = lower-below a e (by-case (below-lower a b p))
-  where
-    by-case : Lower a b → Lower a e
-    by-case (inl s) = inl (omega (arith, q .0))
-    by-case (inr s) = inr (omega (arith, s .0, q .0), omega (arith, s .1, q .1))
-
-same-below : (a b e : Register) → SameTag a b → below b e ≡ true → below a e ≡ true
-same-below a b e q p = lower-below a e (by-case (below-lower b e p))
-  where
-    by-case : Lower b e → Lower a e
-    by-case (inl s) = inl (omega (arith, q .0))
-    by-case (inr s) = inr (omega (arith, s .0, q .0), omega (arith, s .1, q .1))
+use Rattle.machine.specs.Linear.{Takes, by-end, by-tag, Effect, Same, LastWrite, Unwritten, Linear, registerOf, rank, Next, ByTag}
+use Rattle.machine.proofs.Tags.{Lower, below-lower, below-no-higher, tag-below, same-sym, same-trans, same-left, same-right, Compared, compare-tags, below-apart}
 
 -- ---- tasks
 
@@ -71,10 +33,6 @@ same-task p q same = cc
 
 -- ---- by rank, then by the place of the begin
 
--- the second part of the order, of effects with one tag
-abbrev Next : {v : View} → Effect v → Effect v → Type 0
-Next a b = (rank (a .task) < rank (b .task)) ⊎ ((rank (a .task) ≡ rank (b .task)) × (a .begun < b .begun))
-
 next-trans : {v : View} (a b e : Effect v) → Next a b → Next b e → Next a e
 next-trans a b e (inl l) (inl m) = inl (omega arith)
 next-trans a b e (inl l) (inr m) = inl (omega (arith, m .0))
@@ -91,8 +49,8 @@ module _ (v : View) (order : Order v) (values : Values v) (results : Results v) 
       by-case (by-tag g w h) = h
 
   -- the register of one operation is one
-  same-register : (d i e j : ℕ) (t u : Task) (g h : Register) → d ≡ e → i ≡ j → t ≡ u → Chose v d i t g → Chose v e j u h → g ≡ h
-  same-register d i e j t u g h p q s a b =
+  one-register : (d i e j : ℕ) (t u : Task) (g h : Register) → d ≡ e → i ≡ j → t ≡ u → Chose v d i t g → Chose v e j u h → g ≡ h
+  one-register d i e j t u g h p q s a b =
       tags .once d i t g h a
       (subst (λ z. Chose v z i t h) (sym p) (subst (λ z. Chose v e z t h) (sym q) (subst (λ z. Chose v e j z h) (sym s) b)))
 
@@ -105,7 +63,7 @@ module _ (v : View) (order : Order v) (values : Values v) (results : Results v) 
       task = same-task (chose a .current .begun) (chose b .current .begun) (s .1)
 
       one : registerOf a ≡ registerOf b
-      one = same-register (a .desk) (a .begun) (b .desk) (b .begun) (a .task) (b .task) _ _ (s .0) (s .1) task (chose a) (chose b)
+      one = one-register (a .desk) (a .begun) (b .desk) (b .begun) (a .task) (b .task) _ _ (s .0) (s .1) task (chose a) (chose b)
 
       by-next : Next a b → ⊥
       by-next (inl l) = omega (arith, ap rank task)
@@ -118,8 +76,8 @@ module _ (v : View) (order : Order v) (values : Values v) (results : Results v) 
   transitive : (a b e : Effect v) → ByTag v a b → ByTag v b e → ByTag v a e
   transitive a b e (inl l) (inl m) =
       inl (tag-below (registerOf a) (registerOf b) (registerOf e) (below-no-higher (registerOf a) (registerOf b) l) m)
-  transitive a b e (inl l) (inr m) = inl (below-same (registerOf a) (registerOf b) (registerOf e) l (m .0))
-  transitive a b e (inr l) (inl m) = inl (same-below (registerOf a) (registerOf b) (registerOf e) (l .0) m)
+  transitive a b e (inl l) (inr m) = inl (sym (same-right (registerOf a) (registerOf b) (registerOf e) (m .0)) ∙ l)
+  transitive a b e (inr l) (inl m) = inl (same-left (registerOf a) (registerOf b) (registerOf e) (l .0) ∙ m)
   transitive a b e (inr l) (inr m) = inr (same-trans (registerOf a) (registerOf b) (registerOf e) (l .0) (m .0), next-trans a b e (l .1) (m .1))
 
   total : (a b : Effect v) → ByTag v a b ⊎ (ByTag v b a ⊎ Same a b)
@@ -139,8 +97,7 @@ module _ (v : View) (order : Order v) (values : Values v) (results : Results v) 
       by-rank s (inl l) (inr m) = inl (inr (s, inl m))
       by-rank s (inr l) m = inr (inl (inr (same-sym (registerOf a) (registerOf b) s, inl l)))
 
-      by-tags : (below (registerOf a) (registerOf b) ≡ true) ⊎ ((below (registerOf b) (registerOf a) ≡ true) ⊎ SameTag (registerOf a) (registerOf b))
-          → ByTag v a b ⊎ (ByTag v b a ⊎ Same a b)
+      by-tags : Compared (registerOf a) (registerOf b) → ByTag v a b ⊎ (ByTag v b a ⊎ Same a b)
       by-tags (inl l) = inl (inl l)
       by-tags (inr (inl l)) = inr (inl (inl l))
       by-tags (inr (inr s)) = by-rank s (le-or-lt (rank (a .task)) (rank (b .task))) (le-or-lt (rank (b .task)) (rank (a .task)))
@@ -165,8 +122,7 @@ module _ (v : View) (order : Order v) (values : Values v) (results : Results v) 
       by-rank s (inl w) = absurd (below-apart (registerOf a) (registerOf b) (o .1 w) s)
       by-rank s (inr r) = inr (s, later r (le-or-lt (rank (b .task)) (rank (a .task))))
 
-      by-tags : (below (registerOf a) (registerOf b) ≡ true) ⊎ ((below (registerOf b) (registerOf a) ≡ true) ⊎ SameTag (registerOf a) (registerOf b))
-          → ByTag v a b
+      by-tags : Compared (registerOf a) (registerOf b) → ByTag v a b
       by-tags (inl m) = inl m
       by-tags (inr (inl m)) = absurd (true≢false (sym m ∙ o .0))
       by-tags (inr (inr s)) = by-rank s (rank-cases (b .task))
@@ -211,20 +167,20 @@ module _ (v : View) (order : Order v) (values : Values v) (results : Results v) 
         record {
           by = wrote-it;
           wrote = refl;
-          before = inr (same-trans (o .register) (x .register) (registerOf a) (o .tag) (same-sym (registerOf a) (x .register) tag-is), inl (omega (arith, ap rank task)));
-          last = λ b w p. no-later b w p;
+          before = inr (same-sym (registerOf a) (o .register) wrote-tag, inl (omega (arith, ap rank task)));
+          last = no-later;
         }
       where
+        -- the read has the write's tag
+        wrote-tag : SameTag (registerOf a) (o .register)
+        wrote-tag = same-trans (registerOf a) (x .register) (o .register) tag-is (same-sym (o .register) (x .register) (o .tag))
+
         wrote-it : Effect v
         wrote-it =
             record { desk = o .desk; begun = o .begun; task = write (x .register .value); takes = by-tag (o .register) refl (o .chose) }
 
         no-later : (b : Effect v) → writes (b .task) ≡ true → ByTag v b a → ByTag v b wrote-it ⊎ Same b wrote-it
-        no-later b w (inl l) =
-            inl
-            (inl
-            (below-same (registerOf b) (registerOf a) (o .register) l
-            (same-trans (registerOf a) (x .register) (o .register) tag-is (same-sym (o .register) (x .register) (o .tag)))))
+        no-later b w (inl l) = inl (inl (sym (same-right (registerOf b) (registerOf a) (o .register) wrote-tag) ∙ l))
         no-later b w (inr q) = inr (only-one o (b .desk) (b .begun) (b .task) (registerOf b) (chose b) w (same-trans (registerOf b) (registerOf a) (x .register) (q .0) tag-is))
 
     returned : LastWrite v (ByTag v) a (x .register .value) ⊎ (Unwritten v (ByTag v) a × (x .register .value ≡ []))

@@ -95,7 +95,7 @@ telling (told x) = true
 pub tells-nothing : (a : Answer) → telling a ≡ false → (x : Result) → a ≡ told x → ⊥
 tells-nothing a e x f = false≢true (sym e ∙ ap telling f)
 
-told-is : {x y : Result} → told x ≡ told y → x ≡ y
+pub told-is : {x y : Result} → told x ≡ told y → x ≡ y
 told-is e = cc
 
 -- ---- a begin of the machine

@@ -10,6 +10,7 @@ use borrow.Author.Tests.{lt-ltb, le-ltb}
 use lib.Dec.{ltb}
 use lib.ListN.{length, length-append}
 use Rattle.quorums.specs.Sum.{sum}
+use Rattle.quorums.proofs.Tests.{or-false}
 use Rattle.quorums.proofs.Sums.{sum-suc, sum-le, sum-zero}
 use Rattle.format.specs.Bytes.{stands}
 use Rattle.format.proofs.Marks.{stands-pos, stands-most}
@@ -24,7 +25,7 @@ use Rattle.machine.proofs.Branches.{when-cases}
 use Rattle.machine.proofs.Sets.{has-append, has-union, missing-none, missing-some, missing-same}
 use Rattle.machine.proofs.Moves.{PlainMade, moved}
 use Rattle.machine.proofs.Desks.{brings, desk-moved}
-use Rattle.machine.proofs.Performed.{NoBegin, telling, tells-nothing, current-earlier, current-ended, during, begins-is, gives-ended, ended-origin}
+use Rattle.machine.proofs.Performed.{NoBegin, telling, tells-nothing, told-is, current-earlier, current-ended, during, begins-is, gives-ended, ended-origin}
 
 -- ---- how a reply counts: 1 where it has a transfer that the desk's set lacks
 
@@ -34,10 +35,6 @@ brings-more a b e = stands-pos (length (missing a b)) (missing-some a b e)
 brings-none : (a b : Transfers) → includes a b ≡ true → stands (length (missing a b)) ≡ 0
 unfolding stands
 brings-none a b e = ap (λ l. stands (length l)) (missing-none a b e)
-
-or-false : (b : Bool) → b ≡ cond b true false
-or-false true = refl
-or-false false = refl
 
 -- the counter of the operation that runs, or of its result, is n
 abbrev Counts : ℕ → Activity → Type 0
@@ -220,7 +217,7 @@ module _ (c : Config) (steps : List Step) where
       moved c (at r q) (λ h z. z .answer ≡ told x → Told (viewOf r) q x) st
       (record {
         still = λ a e f. absurd (false≢true (sym e ∙ ap accepted f));
-        tells = λ d y e at f g. told-by d (s ∙ ap some e) (f ∙ ap ended (told-is y g));
+        tells = λ d y e at f g. told-by d (s ∙ ap some e) (f ∙ ap ended (told-is g));
         crashes = λ i e l. apart done refl;
         gives = λ i j e z up g. apart done refl;
         shares = λ i place size next e up. apart (wrote next) refl;
@@ -235,9 +232,6 @@ module _ (c : Config) (steps : List Step) where
         ends = λ d k m o g f i z e. apart done refl;
       }))
     where
-      told-is : (y : Result) → told y ≡ told x → y ≡ x
-      told-is y e = cc
-
       told-by : (d : ℕ) → nth steps q ≡ some (result d) → deskAt r d q .activity ≡ ended x → Told (viewOf r) q x
       told-by d s e =
           let from = ended-origin c steps d q x e in

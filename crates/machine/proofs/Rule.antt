@@ -13,7 +13,7 @@ use lib.IntN.{ℤ, pos, _+ℤ_, _-ℤ_}
 use lib.Signed.{_<ℤ_, _≤ℤ_, ≤ℤ-refl, clashℤ}
 use Rattle.quorums.specs.Accounts.{weight, total}
 use Rattle.quorums.specs.Published.{WeightedMajority, RpIntegrity, Line12}
-use Rattle.quorums.proofs.Tests.{chosen-first}
+use Rattle.quorums.proofs.Tests.{test-false, chosen-first}
 use Rattle.quorums.proofs.Differences.{difference-le, difference-same, difference-more}
 use Rattle.quorums.proofs.Rule.{quorum-published, floor-published, gift-published}
 use Rattle.config.specs.Cluster.{validOf, startOf, totalOf, aboveOf}
@@ -29,7 +29,7 @@ use Rattle.machine.proofs.Lists.{nth-in}
 use Rattle.machine.proofs.Branches.{when-cases}
 use Rattle.machine.proofs.Outcomes.{transfer-cases}
 use Rattle.machine.proofs.Histories.{Once, _⊇_}
-use Rattle.machine.proofs.Sets.{test-false, union-either, union-left, once-union}
+use Rattle.machine.proofs.Sets.{union-either, union-left, once-union}
 use Rattle.machine.proofs.Closed.{AllOf, received-part, given-part, closed-total}
 use Rattle.machine.proofs.Moves.{PlainState, stepped, moved}
 use Rattle.machine.proofs.Desks.{put-cases}

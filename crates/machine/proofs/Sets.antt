@@ -11,16 +11,12 @@ use borrow.Author.Tests.{eq-eqb, eqb-true}
 use lib.Dec.{eqb}
 use lib.ListN.{length}
 use Rattle.quorums.specs.Sum.{sum}
-use Rattle.quorums.proofs.Tests.{le-or-lt, both}
+use Rattle.quorums.proofs.Tests.{test-false, le-or-lt, both}
 use Rattle.quorums.proofs.Sums.{sum-add, sum-zero}
 use Rattle.machine.specs.Sets.{Transfer, Transfers, same, has, includes, missing, union, tally}
 use Rattle.machine.proofs.Histories.{Once, _⊇_}
 
--- a test that does not pass, and one that does not matter
-pub test-false : (x : Bool) → (x ≡ true → ⊥) → x ≡ false
-test-false true h = absurd (h refl)
-test-false false h = refl
-
+-- a test that does not matter
 cond-same : {A : Type 0} (x : Bool) (y : A) → cond x y y ≡ y
 cond-same true y = refl
 cond-same false y = refl

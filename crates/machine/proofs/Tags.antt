@@ -1,7 +1,7 @@
 -- Tags are compared stamp first. The order is total, a joined register is the higher of the two, and a write's register is above what was held.
 use Prim.Native.Nat.{ℕ, _≤_, _<_}
 use native.Mathlib.Omega.{arith}
-use mathlib.Core.Path.{_≡_, refl}
+use mathlib.Core.Path.{_≡_, refl, sym, _∙_}
 use mathlib.Core.Logic.{_⊎_, inl, inr, ⊎-elim}
 use mathlib.Core.Bool.{Bool, true, false, cond}
 use mathlib.Core.List.{List}
@@ -114,6 +114,44 @@ tag-below a b e p q =
     (λ (t : (b .stamp ≡ e .stamp) × (b .desk < e .desk)). inr (omega (arith, s .0, t .0), omega (arith, s .1, t .1)))
     (below-lower b e q))
     (no-higher a b p))
+
+-- ---- registers with one tag
+
+pub same-sym : (a b : Register) → SameTag a b → SameTag b a
+same-sym a b s = (sym (s .0), sym (s .1))
+
+pub same-trans : (a b e : Register) → SameTag a b → SameTag b e → SameTag a e
+same-trans a b e s t = (s .0 ∙ t .0, s .1 ∙ t .1)
+
+-- tag and value are all of a register
+pub same-register : (g h : Register) → SameTag g h → g .value ≡ h .value → g ≡ h
+same-register g h s v = λ i. record { stamp = s .0 i; desk = s .1 i; value = v i }
+
+-- they compare alike
+pub same-left : (a b e : Register) → SameTag a b → below a e ≡ below b e
+unfolding below
+same-left a b e s = rw (s .0, s .1) refl
+
+pub same-right : (a b e : Register) → SameTag b e → below a b ≡ below a e
+unfolding below
+same-right a b e s = rw (s .0, s .1) refl
+
+-- one of two tags is lower, or they are one
+abbrev pub Compared : Register → Register → Type 0
+Compared a b = (below a b ≡ true) ⊎ ((below b a ≡ true) ⊎ SameTag a b)
+
+pub compare-tags : (a b : Register) → Compared a b
+compare-tags a b = by-stamp (le-or-lt (a .stamp) (b .stamp)) (le-or-lt (b .stamp) (a .stamp))
+  where
+    by-desk : a .stamp ≡ b .stamp → (a .desk ≤ b .desk) ⊎ (b .desk < a .desk) → (b .desk ≤ a .desk) ⊎ (a .desk < b .desk) → Compared a b
+    by-desk s (inl u) (inl w) = inr (inr (s, omega arith))
+    by-desk s (inl u) (inr w) = inl (lower-below a b (inr (s, w)))
+    by-desk s (inr u) w = inr (inl (lower-below b a (inr (sym s, u))))
+
+    by-stamp : (a .stamp ≤ b .stamp) ⊎ (b .stamp < a .stamp) → (b .stamp ≤ a .stamp) ⊎ (a .stamp < b .stamp) → Compared a b
+    by-stamp (inl s) (inl t) = by-desk (omega arith) (le-or-lt (a .desk) (b .desk)) (le-or-lt (b .desk) (a .desk))
+    by-stamp (inl s) (inr t) = inl (lower-below a b (inl t))
+    by-stamp (inr s) t = inr (inl (lower-below b a (inl s)))
 
 -- one of two tags that are below each other is none
 pub below-apart : (a b : Register) → below a b ≡ true → SameTag a b → ⊥

@@ -11,6 +11,7 @@ use Rattle.machine.specs.Runs.{deskAt}
 use Rattle.machine.specs.Steps.{Step, runOf, PlainRun, machine}
 use Rattle.machine.specs.Seen.{viewOf}
 use Rattle.machine.specs.Views.{View, Begins, Chose, SameTag, Source, Values}
+use Rattle.machine.proofs.Tags.{same-register}
 use Rattle.machine.proofs.Performed.{gives-ended, chosen-runs}
 use Rattle.machine.proofs.Registers.{write-own, write-once}
 use Rattle.machine.proofs.Traces.{Written, Traced, Carries, by-operation, by-result, traced}
@@ -18,10 +19,6 @@ use Rattle.machine.proofs.Traces.{Written, Traced, Carries, by-operatio
 -- a begin is given one list of bytes
 same-bytes : {v : View} {d e i j : ℕ} {a b : List ℕ} → Begins v d i (write a) → Begins v e j (write b) → i ≡ j → a ≡ b
 same-bytes p q same = cc
-
--- tag and value are all of a register
-same-register : (g h : Register) → SameTag g h → g .value ≡ h .value → g ≡ h
-same-register g h s v = λ i. record { stamp = s .0 i; desk = s .1 i; value = v i }
 
 module _ (c : Config) (steps : List Step) where
   abbrev r : PlainRun

@@ -65,9 +65,10 @@ registerOf a = registerIn (a .takes)
 abbrev pub rank : Task → ℕ
 rank t = cond (writes t) 0 1
 
--- By tag; of one tag the write first, then the reads by the place of their begin.
+-- then the reads by the place of their begin
+abbrev pub Next : {v : View} → Effect v → Effect v → Type 0
+Next a b = (rank (a .task) < rank (b .task)) ⊎ ((rank (a .task) ≡ rank (b .task)) × (a .begun < b .begun))
+
+-- by tag, and of one tag so
 abbrev pub ByTag : (v : View) → Effect v → Effect v → Type 0
-ByTag v a b =
-    (below (registerOf a) (registerOf b) ≡ true)
-    ⊎ (SameTag (registerOf a) (registerOf b)
-    × ((rank (a .task) < rank (b .task)) ⊎ ((rank (a .task) ≡ rank (b .task)) × (a .begun < b .begun))))
+ByTag v a b = (below (registerOf a) (registerOf b) ≡ true) ⊎ (SameTag (registerOf a) (registerOf b) × Next a b)

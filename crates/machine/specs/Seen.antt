@@ -1,4 +1,4 @@
--- What is seen of a run of the plain machine, or of another store on sets of transfers.
+-- What a desk hears, in any run; and what is seen of a run of the plain machine, or of another store on sets of transfers.
 use Prim.Native.Nat.{ℕ, zero, suc}
 use mathlib.Core.Bool.{Bool, true, false, cond}
 use mathlib.Core.List.{List, [], _∷_, _++_}

@@ -38,10 +38,19 @@ leb-not a b = by-test (leb a b) refl
     by-test true e = rw (le-ltb b a (leb-true a b e)) refl
     by-test false e = rw (lt-ltb b a (leb-false a b e)) refl
 
+-- a test that does not hold is false
+pub test-false : (b : Bool) → (b ≡ true → ⊥) → b ≡ false
+test-false true h = absurd (h refl)
+test-false false h = refl
+
 -- a test that decides a fact is false exactly where the fact does not hold
 pub fails : {P : Type 0} (b : Bool) → (b ≡ true) ↔ P → (b ≡ false) ↔ (P → ⊥)
-fails true h = (λ e. absurd (false≢true (sym e)), λ n. absurd (n (h .0 refl)))
-fails false h = (λ e p. false≢true (h .1 p), λ n. refl)
+fails b h = (λ e p. false≢true (sym e ∙ h .1 p), λ n. test-false b (λ t. n (h .0 t)))
+
+-- a test, or one that never holds
+pub or-false : (b : Bool) → b ≡ cond b true false
+or-false true = refl
+or-false false = refl
 
 -- two tests that hold, one after the other
 pub both : (a b : Bool) → cond a b false ≡ true → (a ≡ true) × (b ≡ true)

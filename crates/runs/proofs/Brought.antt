@@ -22,10 +22,11 @@ use Rattle.machine.specs.Runs.{at, answerAt, nth, when, deskAt}
 use Rattle.machine.specs.Steps.{askedOf, machine, PlainRun}
 use Rattle.machine.specs.Seen.{accepted, heardIn, hears, heard, viewOf as plainViewOf}
 use Rattle.machine.specs.Sheets.{Found as PlainFound, by-desk as plain-desk, by-message as plain-message}
+use Rattle.machine.proofs.Branches.{when-none}
 use Rattle.machine.proofs.Sets.{tally-same, tally-sum, missing-same}
 use Rattle.machine.proofs.Closed.{count-some}
 use Rattle.machine.proofs.Moves.{Seated}
-use Rattle.machine.proofs.Desks.{brings as plainBrings, when-none, desk-moved}
+use Rattle.machine.proofs.Desks.{brings as plainBrings, desk-moved}
 use Rattle.machine.proofs.Restarts.{brought as plainBrought, held, brings-is, size-next}
 use Rattle.machine.proofs.Clashes.{found-agree}
 use Rattle.machine.proofs.SetRanges.{found-range}

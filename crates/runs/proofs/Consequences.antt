@@ -15,22 +15,22 @@ use Rattle.config.specs.declared.answer.Verdict.{Verdict}
 use Rattle.config.proofs.Clusters.{total-is}
 use Rattle.ledger.specs.declared.ledger.Ledger.{Ledger}
 use Rattle.ledger.specs.Ledgers.{countOf}
-use Rattle.ledger.specs.Maps.{named, mapOf}
+use Rattle.ledger.specs.Maps.{named}
 use Rattle.ledger.specs.Weights.{weightOf, allOf, quorumOf}
 use Rattle.replica.specs.Envelopes.{receiveOf}
 use Rattle.machine.specs.Sets.{Transfers, accounts, weightOf as plainWeight, quorumOf as plainQuorum}
 use Rattle.machine.specs.Parties.{Register, below, Message, Task, read, write, Result}
 use Rattle.machine.specs.Runs.{nth, done, told, step, at, answerAt, deskAt}
 use Rattle.machine.specs.Steps.{begin, hear, result as plain-result, PlainRun}
-use Rattle.machine.specs.Views.{Current, Ends, Chose, SameTag, Source, Order, Values, Results, Tags, Restarts}
+use Rattle.machine.specs.Views.{View, Current, Ends, Chose, SameTag, Source, Order, Values, Results, Tags, Restarts}
 use Rattle.machine.specs.Sheets.{by-server as plain-server, by-desk as plain-desk, by-message as plain-message, Sound as PlainSound}
 use Rattle.machine.specs.Linear.{Linear, ByTag}
-use Rattle.machine.proofs.Tags.{lower-below}
+use Rattle.machine.proofs.Tags.{lower-below, same-left}
 use Rattle.machine.proofs.Linear.{linear}
 use Rattle.runs.specs.Steps.{Step, result, plain, Typed}
 use Rattle.runs.specs.Runs.{ProgramRun, runOf}
 use Rattle.runs.specs.Seen.{chosenIn, ledgerIn, viewOf}
-use Rattle.runs.specs.Clauses.{plainRun, by-server, by-desk, by-message, Sound, Demand3}
+use Rattle.runs.specs.Clauses.{plainRun, plainView, by-server, by-desk, by-message, Sound, Demand3}
 use Rattle.runs.proofs.Demand3.{demand3}
 
 -- ---- written out
@@ -66,12 +66,16 @@ pub record FromWrite (p : ProgramRun) (g h : Register) : Type 0 where
   pub tag : SameTag register h
   pub no-lower : below register g ≡ false
 
--- The result x that step q tells is that of a hear of the same desk, at an earlier place, and reports no more restarts than the desk's ledger has
--- transfers then.
+-- The result x that step q tells is that of its desk's last operation, which ended at an earlier place, and reports no more restarts than the desk's
+-- ledger had transfers then.
 pub record ToldAfter (p : ProgramRun) (q : ℕ) (x : Result) : Type 0 where
   pub desk : ℕ
+  pub begun : ℕ
+  pub task : Task
   pub place : ℕ
   pub asked : nth (map plain (p .steps)) q ≡ some (plain-result desk)
+  pub last : Began p desk begun task q
+  pub ended : Finished p desk begun task place x
   pub earlier : place < q
   pub most : x .restarts ≤ sum 16 (countOf (deskAt p desk (suc place) .replica .ledger))
 
@@ -79,7 +83,7 @@ pub record ToldAfter (p : ProgramRun) (q : ℕ) (x : Result) : Type 0 where
 pub record Weighed (c : Config) (l : Ledger) : Type 0 where
   pub total : allOf c l ≡ pos (c .n * 1000)
   pub floor : (i : ℕ) → i < c .n → aboveOf c (weightOf c l i) ≡ true
-  pub majority : (m : ℕ) → mapOf c m ≡ true → c .n - c .f ≤ size (c .n) (named m) → quorumOf c l m ≡ true
+  pub majority : (m : ℕ) → c .n - c .f ≤ size (c .n) (named m) → quorumOf c l m ≡ true
 
 -- the same of a set of the machine
 pub record SetWeighed (c : Config) (a : Transfers) : Type 0 where
@@ -122,11 +126,6 @@ module _ {p : ProgramRun} {d i : ℕ} {t : Task} where
 
 -- ---- of every run
 
--- what is no lower than b, of one tag
-same-low : (g h b : Register) → SameTag g h → below h b ≡ false → below g b ≡ false
-unfolding below
-same-low g h b t low = rw (t .0, t .1) low
-
 module _ (c : Config) (valid : validOf c ≡ true) (steps : List Step) (typed : Typed steps) where
   abbrev p : ProgramRun
   p = runOf c steps
@@ -139,20 +138,24 @@ module _ (c : Config) (valid : validOf c ≡ true) (steps : List Step) (typed : 
 
   -- ---- the clauses of what is seen of the program itself
 
+  -- what holds of all that is seen of the machine's run holds of the program's
+  pub own : (P : View → Type 0) → P (plainView p) → P (viewOf p)
+  own P h = subst P (sym (d3 .seen)) h
+
   pub own-order : Order (viewOf p)
-  own-order = subst Order (sym (d3 .seen)) (d3 .order)
+  own-order = own Order (d3 .order)
 
   pub own-values : Values (viewOf p)
-  own-values = subst Values (sym (d3 .seen)) (d3 .values)
+  own-values = own Values (d3 .values)
 
   pub own-results : Results (viewOf p)
-  own-results = subst Results (sym (d3 .seen)) (d3 .results)
+  own-results = own Results (d3 .results)
 
   pub own-tags : Tags (viewOf p)
-  own-tags = subst Tags (sym (d3 .seen)) (d3 .tags)
+  own-tags = own Tags (d3 .tags)
 
   pub own-restarts : Restarts (viewOf p)
-  own-restarts = subst Restarts (sym (d3 .seen)) (d3 .restarts)
+  own-restarts = own Restarts (d3 .restarts)
 
   -- Every run of the program is linearizable.
   pub linearizable : Linear (viewOf p) (ByTag (viewOf p))
@@ -185,7 +188,7 @@ module _ (c : Config) (valid : validOf c ≡ true) (steps : List Step) (typed : 
             register = o .register;
             chosen = chosen (o .chose);
             tag = o .tag;
-            no-lower = same-low (o .register) (y .register) (x .register) (o .tag) low;
+            no-lower = same-left (o .register) (y .register) (x .register) (o .tag) ∙ low;
           }
 
   -- ---- tags
@@ -207,7 +210,17 @@ module _ (c : Config) (valid : validOf c ≡ true) (steps : List Step) (typed : 
       let made = s .made (t .desk) (t .begun) (t .end) (t .task) x (t .ends) in
       let most = s .gained (t .desk) (t .begun) (t .end) in
       let grown = s .growth (t .desk) (t .begun) (t .end) (t .task) x (t .ends) in
-      record { desk = t .desk; place = t .end; asked = t .step; earlier = t .earlier; most = omega (arith, made, most, grown) }
+      record {
+        desk = t .desk;
+        begun = t .begun;
+        task = t .task;
+        place = t .end;
+        asked = t .step;
+        last = began (t .current);
+        ended = finished (t .ends);
+        earlier = t .earlier;
+        most = omega (arith, made, most, grown);
+      }
 
   -- ---- sheets
 

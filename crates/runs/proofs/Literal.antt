@@ -2,7 +2,7 @@
 -- weight twice; then desk 1 reads, restarts once, and reads through server 1 alone.
 use Prim.Native.Nat.{ℕ}
 use native.Mathlib.Omega.{arith}
-use mathlib.Core.Path.{_≡_, refl, sym, ap, _∙_, subst}
+use mathlib.Core.Path.{_≡_, refl, sym, ap, _∙_}
 use mathlib.Core.Bool.{true, false}
 use mathlib.Core.List.{List, [], _∷_, _++_, map}
 use mathlib.Core.Option.{some}
@@ -13,7 +13,7 @@ use Rattle.config.specs.Cluster.{configOf, validOf, aboveOf}
 use Rattle.config.specs.declared.cluster.Config.{Config}
 use Rattle.config.specs.declared.answer.Verdict.{Verdict}
 use Rattle.ledger.specs.declared.ledger.Ledger.{Ledger}
-use Rattle.ledger.specs.Maps.{named, mapOf}
+use Rattle.ledger.specs.Maps.{named}
 use Rattle.ledger.specs.Weights.{weightOf, allOf, quorumOf}
 use Rattle.replica.specs.Envelopes.{receiveOf}
 use Rattle.machine.specs.Parties.{read, start, Result}
@@ -26,7 +26,7 @@ use Rattle.runs.specs.Runs.{ProgramRun, runOf}
 use Rattle.runs.specs.Seen.{ledgerIn, viewOf}
 use Rattle.runs.specs.Clauses.{plainRun, plainView, Demand3}
 use Rattle.runs.proofs.Demand3.{demand3}
-use Rattle.runs.proofs.Consequences.{Weighed, own-restarts, server-weighed, desk-weighed, message-weighed}
+use Rattle.runs.proofs.Consequences.{Weighed, own, own-restarts, server-weighed, desk-weighed, message-weighed}
 
 abbrev two : Config
 two = configOf 2 0
@@ -140,7 +140,7 @@ pub record Seen (v : View) : Type 0 where
 
 pub seen : Seen (viewOf p)
 unfolding computing
-seen = subst Seen (sym (d3 .seen)) (record { gives = refl; chosen = refl; brings = refl; held-before = refl; held-after = refl })
+seen = own two valid steps typed Seen (record { gives = refl; chosen = refl; brings = refl; held-before = refl; held-after = refl })
 
 -- ---- the read, its restarts and its gain
 
@@ -149,7 +149,7 @@ unfolding computing
 plain-ends = ends-of (plainRun p) 1 2 read 11 unsold 4294967295 5 refl refl refl refl refl refl refl
 
 pub ends : Ends (viewOf p) 1 2 read 11 unsold
-ends = subst (λ v. Ends v 1 2 read 11 unsold) (sym (d3 .seen)) plain-ends
+ends = own two valid steps typed (λ v. Ends v 1 2 read 11 unsold) plain-ends
 
 -- one restart was made, as it was told
 pub made : restartsMade (viewOf p) 1 2 11 ≡ 1
@@ -168,8 +168,8 @@ pub record Sheet (l : Ledger) : Type 0 where
   pub quorum : quorumOf two l 3 ≡ true
 
 sheet : (l : Ledger) → Weighed two l → Sheet l
-unfolding mapOf validOf named size sumIn sum
-sheet l w = record { total = w .total; floor = (w .floor 0 (omega arith), w .floor 1 (omega arith)); quorum = w .majority 3 refl (omega arith) }
+unfolding named size sumIn sum
+sheet l w = record { total = w .total; floor = (w .floor 0 (omega arith), w .floor 1 (omega arith)); quorum = w .majority 3 (omega arith) }
 
 -- so it is where a reply brings it, where server 1 holds it, and where desk 1 does
 pub sent-sheet : (receiveOf two firstReply .verdict ≡ Verdict.Accepted) × Sheet (ledgerIn two firstReply)

@@ -35,7 +35,7 @@ sound-for c valid a w s =
     record {
       weights = all-for c valid a w ∙ s .weights;
       floor = λ i l. ap (aboveOf c) (weight-for c valid a w i l) ∙ s .floor i l;
-      majority = λ m inside l. quorum-for c valid a w m (named m) (λ i k. refl) ∙ s .majority (named m) l;
+      majority = λ m l. quorum-for c valid a w m (named m) (λ i k. refl) ∙ s .majority (named m) l;
     }
 
 -- the message of the machine that bytes of the program's run stand for, at the same place among those sent

@@ -12,17 +12,16 @@ use Rattle.config.specs.declared.cluster.Config.{Config}
 use Rattle.machine.specs.Parties.{Register, below, Task, read, write, writes, Result}
 use Rattle.machine.specs.Runs.{nth, told, answerAt}
 use Rattle.machine.specs.Steps.{Step as PlainStep, begin as plain-begin, result as plain-result}
-use Rattle.machine.specs.Views.{Current, Ends, Chose, Source, Told}
+use Rattle.machine.specs.Views.{Current, Ends, Chose, SameTag, Source, Told}
 use Rattle.machine.proofs.Computing.{computing}
-use Rattle.machine.proofs.Tags.{lower-below}
+use Rattle.machine.proofs.Tags.{lower-below, same-sym, same-trans, same-register}
 use Rattle.machine.proofs.Performed.{current-unique}
 use Rattle.machine.proofs.Concrete.{ends-of, chose-of, areBytes, typedSteps, typed-before, all-typed}
 use Rattle.runs.specs.Steps.{Step, begin, ask, serve, hear, hear-lent, drop, plain, Typed}
 use Rattle.runs.specs.Runs.{ProgramRun, runOf}
 use Rattle.runs.specs.Seen.{viewOf}
 use Rattle.runs.specs.Clauses.{plainRun, plainView}
-use Rattle.runs.proofs.Demand3.{demand3}
-use Rattle.runs.proofs.Consequences.{Began, Chosen, current, chose, chosen, own-order, own-values, own-results, own-tags, own-restarts}
+use Rattle.runs.proofs.Consequences.{Began, Chosen, current, chose, chosen, own, own-order, own-values, own-results, own-tags, own-restarts}
 
 -- ---- the sale
 
@@ -84,7 +83,7 @@ module _ (rest : List Step) (rest-typed : Typed rest) where
   plain-ends = ends-of (plainRun p) 1 0 (write sale) 6 sale-told 0 3 refl refl refl refl refl refl refl
 
   sale-ends : Ends (viewOf p) 1 0 (write sale) 6 sale-told
-  sale-ends = subst (λ v. Ends v 1 0 (write sale) 6 sale-told) (sym (demand3 alone valid (selling rest) typed .seen)) plain-ends
+  sale-ends = own alone valid (selling rest) typed (λ v. Ends v 1 0 (write sale) 6 sale-told) plain-ends
 
   sale-chose : Chose (viewOf p) 1 0 (write sale) sold
   sale-chose = own-results alone valid (selling rest) typed .chose 1 0 6 (write sale) sale-told sale-ends
@@ -106,7 +105,7 @@ module _ (rest : List Step) (rest-typed : Typed rest) where
   -- so a register that is no start's and comes from a write is the sale's
   from-sale : NoOther p → (g : Register) → below g sold ≡ false → Source (viewOf p) g (g .value) → g ≡ sold
   from-sale none g low (inl s) = absurd (true≢false (sym (lower-below g sold (inl (omega (arith, s .0)))) ∙ low))
-  from-sale none g low (inr o) = λ i. record { stamp = stamp i; desk = desk i; value = is .2 i }
+  from-sale none g low (inr o) = same-register g sold (same-trans g (o .register) sold (same-sym (o .register) g (o .tag)) tag) (is .2)
     where
       is : (o .desk ≡ 1) × (o .begun ≡ 0) × (g .value ≡ sale)
       is = let b = o .chose .current .begun in only-begin none (o .begun) (o .desk) (g .value) (b .note) (b .step)
@@ -119,11 +118,8 @@ module _ (rest : List Step) (rest-typed : Typed rest) where
           (subst (λ w. Chose (viewOf p) (o .desk) (o .begun) (write w) (o .register)) (is .2) (o .chose))))
           sale-chose
 
-      stamp : g .stamp ≡ 1
-      stamp = sym (o .tag .0) ∙ ap (λ y. y .stamp) one
-
-      desk : g .desk ≡ 1
-      desk = sym (o .tag .1) ∙ ap (λ y. y .desk) one
+      tag : SameTag (o .register) sold
+      tag = (ap (λ y. y .stamp) one, ap (λ y. y .desk) one)
 
   -- ---- reads
 
@@ -199,8 +195,7 @@ module _ (rest : List Step) (rest-typed : Typed rest) where
   plain-read = ends-of (plainRun q) 2 7 read 13 read-told 0 7 refl refl refl refl refl refl refl
 
   read-ends : Ends (viewOf q) 2 7 read 13 read-told
-  read-ends =
-      subst (λ v. Ends v 2 7 read 13 read-told) (sym (demand3 alone valid (selling (reading rest)) read-typed .seen)) plain-read
+  read-ends = own alone valid (selling (reading rest)) read-typed (λ v. Ends v 2 7 read 13 read-told) plain-read
 
   -- Whatever follows: no other write ever has the tag (1, 1) that was read.
   pub only-sale : (d i : ℕ) (w : List ℕ) (g : Register) → Chosen q d i (write w) g → g .stamp ≡ 1 → g .desk ≡ 1 → (d ≡ 1) × (i ≡ 0)
@@ -241,8 +236,7 @@ plain-dropped = chose-of (plainRun o) 2 7 (write other) 11 over 0 refl refl refl
 -- it chose, and was dropped; and its tag is above the sale's
 pub dropped-chosen : Chosen o 2 7 (write other) over
 dropped-chosen =
-    chosen
-    (subst (λ v. Chose v 2 7 (write other) over) (sym (demand3 alone valid (selling drop-steps) (selling-typed drop-steps drop-typed) .seen)) plain-dropped)
+    chosen (own alone valid (selling drop-steps) (selling-typed drop-steps drop-typed) (λ v. Chose v 2 7 (write other) over) plain-dropped)
 
 pub dropped-higher : below sold over ≡ true
 dropped-higher = later-tags drop-steps drop-typed 2 7 (write other) over (omega arith) dropped-chosen .1 refl

@@ -11,7 +11,7 @@ use Rattle.config.specs.Cluster.{validOf, totalOf, aboveOf}
 use Rattle.config.specs.declared.cluster.Config.{Config}
 use Rattle.config.specs.declared.answer.Verdict.{Verdict}
 use Rattle.ledger.specs.declared.ledger.Ledger.{Ledger}
-use Rattle.ledger.specs.Maps.{named, mapOf}
+use Rattle.ledger.specs.Maps.{named}
 use Rattle.ledger.specs.Weights.{weightOf, allOf, quorumOf}
 use Rattle.replica.specs.Envelopes.{receiveOf}
 use Rattle.machine.specs.Parties.{bytesOf}
@@ -46,7 +46,7 @@ pub data Found (r : ProgramRun) (k : ℕ) (l : Ledger) : Type 0 where
 pub record Sound (c : Config) (l : Ledger) : Type 0 where
   pub weights : allOf c l ≡ pos (totalOf c)
   pub floor : (i : ℕ) → i < c .n → aboveOf c (weightOf c l i) ≡ true
-  pub majority : (m : ℕ) → mapOf c m ≡ true → c .n - c .f ≤ size (c .n) (named m) → quorumOf c l m ≡ true
+  pub majority : (m : ℕ) → c .n - c .f ≤ size (c .n) (named m) → quorumOf c l m ≡ true
 
 -- So it is on every sheet held or sent; and every message sent passes its checks.
 pub record Sheets (r : ProgramRun) : Type 0 where
