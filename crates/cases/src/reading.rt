@@ -6,9 +6,10 @@ use super::record::weights;
 use super::writing::is_written_again;
 use config::Config;
 use config::Verdict;
-use message::Header;
+use message::Fields;
 use reader::check;
 use reader::fields;
+use reader::receive;
 use reader::value;
 ghost use Prim.Native.Nat.{_≤_};
 ghost use lib.ListN.{length};
@@ -30,7 +31,6 @@ pub(crate) fn answer_message(config: Config, longer: &[u8])
     let found = number_of(check(config, msg));
     let read = fields(config, msg);
     let verdict = read.verdict;
-    let header = read.header;
     let part = value(config, msg);
     if number_of(verdict) != found {
         refused(found, false);
@@ -40,9 +40,9 @@ pub(crate) fn answer_message(config: Config, longer: &[u8])
         refused(found, part.len() == 0);
         return;
     }
-    accepted(config, header, part);
+    accepted(config, read, part);
     tried(config, msg, longer);
-    again(config, header, part, msg);
+    again(config, msg);
 }
 
 // `agreed`: all three calls refuse the message, by the same number.
@@ -54,16 +54,17 @@ fn refused(number: u64, agreed: bool) {
 }
 
 // The fields of a message.
-fn accepted(config: Config, header: Header, part: &[u8]) {
-    let tag = header.tag;
-    let ledger = header.ledger;
-    item(b"ok kind ", header.kind as u64);
-    item(b" server ", header.server as u64);
-    item(b" desk ", header.desk as u64);
-    item(b" round ", header.round as u64);
+fn accepted(config: Config, read: Fields, part: &[u8]) {
+    let envelope = read.envelope;
+    let tag = read.tag;
+    let ledger = read.ledger;
+    item(b"ok kind ", envelope.kind as u64);
+    item(b" server ", envelope.server as u64);
+    item(b" desk ", envelope.desk as u64);
+    item(b" round ", envelope.round as u64);
     item(b" tag ", tag.stamp as u64);
     item(b" ", tag.desk as u64);
-    item(b" note ", header.note as u64);
+    item(b" note ", envelope.note as u64);
     word(b" value ");
     hex(part);
     word(b" weights");
@@ -90,11 +91,14 @@ fn torn(config: Config, msg: &[u8]) -> usize {
     count
 }
 
-fn again(config: Config, header: Header, part: &[u8], msg: &[u8])
+fn again(config: Config, msg: &[u8])
     requires { ⌜ length (now msg) ≤ 2048 ⌝ }
 {
     word(b" again ");
-    if is_written_again(config, header, part, msg) {
+    let got = receive(config, msg);
+    let envelope = got.envelope;
+    let replica = got.replica;
+    if is_written_again(config, envelope, replica, msg) {
         word(b"same");
     } else {
         word(b"other");

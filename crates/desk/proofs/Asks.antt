@@ -11,10 +11,11 @@ use Rattle.config.specs.declared.answer.Verdict.{Verdict}
 use Rattle.config.specs.declared.answer.Number.{Number}
 use Rattle.config.proofs.Clusters.{valid-bounds, value-not-refused}
 use Rattle.message.specs.Cursors.{within}
-use Rattle.message.specs.Faults.{kindFits}
-use Rattle.replica.specs.Envelopes.{lawful, Written, place, between, receiveOf, trimmedReplica, Typed as TypedEnvelope}
-use Rattle.replica.proofs.Envelopes.{told-lawful, received-back}
-use Rattle.replica.proofs.Placed.{placed-message}
+use Rattle.message.specs.Faults.{kindFits, lawful}
+use Rattle.message.specs.Envelopes.{trimmedReplica, Typed as TypedEnvelope}
+use Rattle.message.specs.Answers.{Written, place, between, receiveOf}
+use Rattle.message.proofs.Envelopes.{told-lawful, received-back}
+use Rattle.message.proofs.Placed.{placed-message}
 use Rattle.desk.specs.declared.record.Desk.{Desk}
 use Rattle.desk.specs.Operations.{running}
 use Rattle.desk.specs.Desks.{fits, Typed}

@@ -2,11 +2,11 @@
 -- operation runs, and after an accepted drop there is none.
 use Prim.Native.Nat.{ℕ, suc, _≤_, _<_}
 use native.Mathlib.Omega.{arith}
-use mathlib.Core.Path.{_≡_, refl, sym}
+use mathlib.Core.Path.{_≡_, refl, sym, _∙_}
 use mathlib.Core.Bool.{Bool, true, false, cond}
 use mathlib.Core.List.{List}
 use borrow.Author.Tests.{eqb-true, leb-true, ltb-true, lt-leb, le-leb, eq-eqb}
-use lib.Dec.{eqb, leb, ltb}
+use lib.Dec.{eqb, ltb}
 use lib.ListN.{length, getD}
 use Rattle.config.specs.Refusals.{refusal}
 use Rattle.config.specs.declared.answer.Refusal.{Refusal}
@@ -14,8 +14,8 @@ use Rattle.config.specs.declared.answer.Verdict.{Verdict}
 use Rattle.ledger.proofs.Checks.{accepted-not-refused}
 use Rattle.message.specs.Cursors.{within}
 use Rattle.replica.specs.declared.value.Value.{Value}
-use Rattle.replica.specs.Values.{valueOf, mostValue, Typed as TypedValue}
-use Rattle.replica.proofs.Values.{value-short, value-typed}
+use Rattle.replica.specs.Values.{valueFits, valueOf, Typed as TypedValue}
+use Rattle.replica.proofs.Values.{value-fits, value-typed}
 use Rattle.replica.proofs.Registers.{start-typed, start-fits}
 use Rattle.desk.specs.declared.record.Desk.{Desk}
 use Rattle.desk.specs.declared.record.DeskAnswer.{DeskAnswer}
@@ -27,21 +27,21 @@ use Rattle.desk.proofs.Desks.{fits-told, told-fits, fits-valid}
 
 -- ---- what the calls come to
 
--- a begin is refused, or starts an operation with a value of up to 64 bytes, before the last round
+-- a begin is refused, or starts an operation with a value that fits, before the last round
 begin-cases : (P : DeskAnswer → Type 0) (x : Desk) (kind : ℕ) (v : List ℕ) (note : ℕ)
     → ((k : Refusal) → P (refused k x))
-    → (length v ≤ 64 → x .round < mostRound → P (accepted (begun x kind (valueOf v) note)))
+    → (valueFits (valueOf v) ≡ true → x .round < mostRound → P (accepted (begun x kind (valueOf v) note)))
     → P (beginOf x kind v note)
 unfolding beginOf startOf
 begin-cases P x kind v note refuses accepts =
-    by-tests (fits x) (leb (length v) mostValue) (eqb (x .operation .mode) running) (ltb (x .round) mostRound) refl refl
+    by-tests (fits x) (valueFits (valueOf v)) (eqb (x .operation .mode) running) (ltb (x .round) mostRound) refl refl
   where
-    by-tests : (f l m r : Bool) → leb (length v) mostValue ≡ l → ltb (x .round) mostRound ≡ r
+    by-tests : (f l m r : Bool) → valueFits (valueOf v) ≡ l → ltb (x .round) mostRound ≡ r
         → P (cond f
         (cond l (cond m (refused (refusal 8) x) (cond r (accepted (begun x kind (valueOf v) note)) (refused (refusal 12) x))) (refused (refusal 14) x))
         (refused (refusal 1) x))
     by-tests true true true r a b = refuses (refusal 8)
-    by-tests true true false true a b = accepts (leb-true (length v) 64 a) (ltb-true (x .round) mostRound b)
+    by-tests true true false true a b = accepts a (ltb-true (x .round) mostRound b)
     by-tests true true false false a b = refuses (refusal 12)
     by-tests true false m r a b = refuses (refusal 14)
     by-tests false l m r a b = refuses (refusal 1)
@@ -74,7 +74,7 @@ pub begin-runs : (x : Desk) (kind : ℕ) (v : List ℕ) (note : ℕ) → beginOf
     → (beginOf x kind v note .desk ≡ begun x kind (valueOf v) note) × (length v ≤ 64)
 begin-runs x kind v note =
     begin-cases (λ (a : DeskAnswer). a .verdict ≡ Verdict.Accepted → (a .desk ≡ begun x kind (valueOf v) note) × (length v ≤ 64)) x kind v note
-    (λ n e. accepted-not-refused n (sym e)) (λ l r e. (refl, l))
+    (λ n e. accepted-not-refused n (sym e)) (λ l r e. (refl, leb-true (length v) 64 (sym (value-fits v) ∙ l)))
 
 pub drop-idle : (x : Desk) → dropOf x .verdict ≡ Verdict.Accepted → (dropOf x .desk .operation ≡ noOperation) × (x .operation .mode ≡ running)
 drop-idle x =
@@ -83,7 +83,7 @@ drop-idle x =
 
 -- ---- a desk stays one
 
-begun-fits : (x : Desk) (kind : ℕ) (value : Value) (note : ℕ) → within reading writing kind ≡ true → value .length ≤ 64 → fits x ≡ true
+begun-fits : (x : Desk) (kind : ℕ) (value : Value) (note : ℕ) → within reading writing kind ≡ true → valueFits value ≡ true → fits x ≡ true
     → fits (begun x kind value note) ≡ true
 unfolding phaseLawful within
 begun-fits x kind value note w l e =
@@ -97,8 +97,8 @@ begun-fits x kind value note w l e =
         phase-in = refl;
         answered-in = none-answered (x .config) (fits-valid x e);
         restarts-in = omega arith;
-        value-short = l;
-        chosen-fits = start-fits;
+        value-fits = l;
+        chosen-fits = start-fits (x .config);
       });
     })
 
@@ -125,7 +125,7 @@ begun-typed x kind value note k v n r t = record {
 pub begin-fits : (x : Desk) (kind : ℕ) (v : List ℕ) (note : ℕ) → within reading writing kind ≡ true → fits x ≡ true
     → fits (beginOf x kind v note .desk) ≡ true
 begin-fits x kind v note w e =
-    begin-cases (λ (a : DeskAnswer). fits (a .desk) ≡ true) x kind v note (λ k. e) (λ l r. begun-fits x kind (valueOf v) note w (value-short v) e)
+    begin-cases (λ (a : DeskAnswer). fits (a .desk) ≡ true) x kind v note (λ k. e) (λ l r. begun-fits x kind (valueOf v) note w l e)
 
 pub begin-typed : (x : Desk) (kind : ℕ) (v : List ℕ) (note : ℕ) → kind ≤ 65535 → ((k : ℕ) → getD v k 0 < 256) → note ≤ 4294967295 → Typed x
     → Typed (beginOf x kind v note .desk)
@@ -161,9 +161,9 @@ drop-typed x t =
 -- a value that is too long is told before an operation that runs, and that before the last round
 pub begin-long : (x : Desk) (kind : ℕ) (v : List ℕ) (note : ℕ) → fits x ≡ true → 64 < length v → beginOf x kind v note ≡ refused (refusal 14) x
 unfolding beginOf
-begin-long x kind v note f l = rw (f, lt-leb (length v) 64 l) refl
+begin-long x kind v note f l = rw (f, value-fits v ∙ lt-leb (length v) 64 l) refl
 
 pub begin-busy : (x : Desk) (kind : ℕ) (v : List ℕ) (note : ℕ) → fits x ≡ true → length v ≤ 64 → x .operation .mode ≡ running
     → beginOf x kind v note ≡ refused (refusal 8) x
 unfolding beginOf startOf
-begin-busy x kind v note f l m = rw (f, le-leb (length v) 64 l, eq-eqb (x .operation .mode) running m) refl
+begin-busy x kind v note f l m = rw (f, value-fits v ∙ le-leb (length v) 64 l, eq-eqb (x .operation .mode) running m) refl

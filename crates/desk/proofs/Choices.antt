@@ -7,9 +7,9 @@ use borrow.Author.Tests.{eq-eqb, ne-eqb, eqb-true, lt-ltb, le-ltb, ltb-true, ltb
 use lib.Dec.{eqb}
 use Rattle.quorums.proofs.Tests.{chosen-second}
 use Rattle.config.specs.Cluster.{stampBytes, mostStamp}
-use Rattle.message.proofs.Registers.{good-fits}
 use Rattle.replica.specs.declared.register.Register.{Register}
-use Rattle.replica.specs.Registers.{below, fits as fitsRegister, Typed as TypedRegister}
+use Rattle.replica.specs.Registers.{below, registerFits, Typed as TypedRegister}
+use Rattle.replica.proofs.Registers.{tagged-fits}
 use Rattle.desk.specs.declared.record.Desk.{Desk}
 use Rattle.desk.specs.Operations.{writing}
 use Rattle.desk.specs.Desks.{fits, Typed}
@@ -29,23 +29,28 @@ chosen-either P x r w h = by-test (eqb (x .operation .kind) writing) refl
     by-test true e = w (eqb-true (x .operation .kind) writing e)
     by-test false e = h
 
-written-fits : (x : Desk) (r : Register) → fits x ≡ true → fitsRegister (written x r) ≡ true
-unfolding fitsRegister
-written-fits x r e =
+-- a write has a stamp left
+has-stamp : (x : Desk) (r : Register) → noStamp x r ≡ false → x .operation .kind ≡ writing → r .stamp < mostStamp (x .config)
+unfolding noStamp
+has-stamp x r e w = ltb-true (r .stamp) (mostStamp (x .config)) (not-false _ (rw (eq-eqb (x .operation .kind) writing w) at e))
+
+pub stamp-left : (x : Desk) (r : Register) → noStamp x r ≡ false → x .operation .kind ≡ writing → r .stamp < 4294967295
+unfolding mostStamp stampBytes
+stamp-left x r e w = has-stamp x r e w
+
+written-fits : (x : Desk) (r : Register) → fits x ≡ true → r .stamp < mostStamp (x .config) → registerFits (x .config) (written x r) ≡ true
+written-fits x r e left =
     let t = fits-told x e in
-    good-fits (suc (r .stamp)) (x .number) (x .operation .value .length) (record {
-      stamp-stands = λ m. omega arith;
-      desk-stands = λ m. number-told (x .number) (t .number-in) .0;
-      short = operation-told (x .config) (x .round) (x .operation) (t .operation-fits) .value-short;
+    tagged-fits (x .config) (written x r) (record {
+      stamp-stands = omega arith;
+      stamp-most = omega arith;
+      desk-stands = number-told (x .number) (t .number-in) .0;
+      value-fits = operation-told (x .config) (x .round) (x .operation) (t .operation-fits) .value-fits;
     })
 
-pub chosen-fits : (x : Desk) (r : Register) → fits x ≡ true → fitsRegister r ≡ true → fitsRegister (chosenOf x r) ≡ true
-chosen-fits x r e h = chosen-either (λ g. fitsRegister g ≡ true) x r (λ w. written-fits x r e) h
-
--- a write has a stamp left
-pub stamp-left : (x : Desk) (r : Register) → noStamp x r ≡ false → x .operation .kind ≡ writing → r .stamp < 4294967295
-unfolding noStamp mostStamp stampBytes
-stamp-left x r e w = ltb-true (r .stamp) 4294967295 (not-false _ (rw (eq-eqb (x .operation .kind) writing w) at e))
+pub chosen-fits : (x : Desk) (r : Register) → fits x ≡ true → noStamp x r ≡ false → registerFits (x .config) r ≡ true
+    → registerFits (x .config) (chosenOf x r) ≡ true
+chosen-fits x r e s h = chosen-either (λ g. registerFits (x .config) g ≡ true) x r (λ w. written-fits x r e (has-stamp x r s w)) h
 
 pub chosen-typed : (x : Desk) (r : Register) → Typed x → fits x ≡ true → noStamp x r ≡ false → TypedRegister r → TypedRegister (chosenOf x r)
 chosen-typed x r t e s h =

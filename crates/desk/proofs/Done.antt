@@ -1,7 +1,7 @@
 -- Every other input is accepted (demand 1): a call whose input fails none of the paper's tests is accepted, and does what the paper says. The limits are
 -- written out here, so that a test which refuses before its limit has no such law.
 use Prim.Native.Nat.{ℕ, _≤_, _<_}
-use mathlib.Core.Path.{_≡_, refl}
+use mathlib.Core.Path.{_≡_, refl, _∙_}
 use mathlib.Core.Bool.{Bool, true, false, cond}
 use mathlib.Core.List.{List}
 use borrow.Author.Tests.{eq-eqb, ne-eqb, lt-ltb, le-leb}
@@ -10,12 +10,13 @@ use lib.ListN.{length}
 use Rattle.config.specs.declared.answer.Verdict.{Verdict}
 use Rattle.ledger.specs.Weights.{quorumOf}
 use Rattle.ledger.specs.Joins.{lacks}
-use Rattle.replica.specs.declared.envelope.Envelope.{Envelope}
+use Rattle.message.specs.declared.envelope.Envelope.{Envelope}
 use Rattle.replica.specs.declared.replica.Replica.{Replica}
 use Rattle.replica.specs.Values.{valueOf}
+use Rattle.replica.proofs.Values.{value-fits}
 use Rattle.replica.specs.Registers.{trimmed}
 use Rattle.replica.specs.Replicas.{join}
-use Rattle.replica.specs.Envelopes.{place, receiveOf}
+use Rattle.message.specs.Answers.{place, receiveOf}
 use Rattle.desk.specs.declared.record.Desk.{Desk}
 use Rattle.desk.specs.declared.record.Hearing.{Hearing}
 use Rattle.desk.specs.Desks.{fits, accepted, mostRound}
@@ -32,7 +33,7 @@ module _ (x : Desk) (f : fits x ≡ true) where
       → beginOf x kind v note ≡ accepted (begun x kind (valueOf v) note)
   unfolding beginOf startOf
   begin-done kind v note l m r =
-      rw (f, le-leb (length v) 64 l, ne-eqb (x .operation .mode) running m, lt-ltb (x .round) mostRound r) refl
+      rw (f, value-fits v ∙ le-leb (length v) 64 l, ne-eqb (x .operation .mode) running m, lt-ltb (x .round) mostRound r) refl
 
   -- ask: an operation runs, and the server is one of the cluster
   pub ask-done : (i : ℕ) (out : List ℕ) (at : ℕ) → x .operation .mode ≡ 1 → i < x .config .n → askOf x i out at ≡ place (requestMessage x i) out at

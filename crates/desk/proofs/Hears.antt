@@ -13,14 +13,14 @@ use Rattle.config.proofs.Clusters.{valid-bounds}
 use Rattle.ledger.specs.Maps.{mapOf}
 use Rattle.ledger.proofs.Maps.{map-valid}
 use Rattle.message.specs.Cursors.{within}
-use Rattle.message.specs.Headers.{Bytes}
+use Rattle.message.specs.Envelopes.{Bytes}
 use Rattle.replica.specs.declared.replica.Replica.{Replica}
-use Rattle.replica.specs.Registers.{fits as fitsRegister, Typed as TypedRegister}
+use Rattle.replica.specs.Registers.{Typed as TypedRegister}
 use Rattle.replica.specs.Replicas.{join, fits as fitsReplica, Typed as TypedReplica}
-use Rattle.replica.specs.Envelopes.{receiveOf}
-use Rattle.replica.proofs.Values.{empty-typed}
+use Rattle.message.specs.Answers.{receiveOf}
+use Rattle.replica.proofs.Values.{empty-fits, empty-typed}
 use Rattle.replica.proofs.Replicas.{fits-told as replica-told, told-fits as told-replica, join-typed, join-fits, Grows, grows-left, grows-right}
-use Rattle.replica.proofs.Envelopes.{lawful-told, receive-told}
+use Rattle.message.proofs.Envelopes.{lawful-told, receive-told}
 use Rattle.desk.specs.declared.operation.Operation.{Operation}
 use Rattle.desk.specs.declared.record.Desk.{Desk}
 use Rattle.desk.specs.declared.record.Hearing.{Hearing}
@@ -54,15 +54,15 @@ module _ (x : Desk) (p : Replica) (e : fits x ≡ true) (h : fitsReplica (x .con
         phase-in = before .phase-in;
         answered-in = none-answered (x .config) (fits-valid x e);
         restarts-in = omega (arith, before .restarts-in);
-        value-short = before .value-short;
+        value-fits = before .value-fits;
         chosen-fits = before .chosen-fits;
       })
 
-  chose-fits : fits (chose x p) ≡ true
+  chose-fits : noStamp x (p .register) ≡ false → fits (chose x p) ≡ true
   unfolding phaseLawful within
-  chose-fits =
+  chose-fits n =
       let t = replica-told (x .config) p h in
-      let g : fitsRegister (chosenOf x (p .register)) ≡ true = chosen-fits x (p .register) e (t .register-fits) in
+      let g = chosen-fits x (p .register) e n (t .register-fits) in
       kept (record { ledger = p .ledger; register = chosenOf x (p .register) }) (suc (x .round)) (inPhaseTwo (x .operation) (chosenOf x (p .register)))
       (told-replica (x .config) (record { ledger = p .ledger; register = chosenOf x (p .register) })
       (record { valid = t .valid; ledger-bounded = t .ledger-bounded; ledger-above = t .ledger-above; register-fits = g }))
@@ -72,7 +72,7 @@ module _ (x : Desk) (p : Replica) (e : fits x ≡ true) (h : fitsReplica (x .con
         phase-in = refl;
         answered-in = none-answered (x .config) (fits-valid x e);
         restarts-in = omega (arith, before .restarts-in);
-        value-short = before .value-short;
+        value-fits = before .value-fits;
         chosen-fits = g;
       })
 
@@ -85,7 +85,7 @@ module _ (x : Desk) (p : Replica) (e : fits x ≡ true) (h : fitsReplica (x .con
         phase-in = refl;
         answered-in = none-answered (x .config) (fits-valid x e);
         restarts-in = before .restarts-in;
-        value-short = omega arith;
+        value-fits = empty-fits;
         chosen-fits = before .chosen-fits;
       })
 
@@ -97,7 +97,7 @@ module _ (x : Desk) (p : Replica) (e : fits x ≡ true) (h : fitsReplica (x .con
         phase-in = before .phase-in;
         answered-in = marked-map (x .config) (x .operation .answered) i l (before .answered-in);
         restarts-in = before .restarts-in;
-        value-short = before .value-short;
+        value-fits = before .value-fits;
         chosen-fits = before .chosen-fits;
       })
 
@@ -112,7 +112,7 @@ hear-fits x msg b e =
     let p = join (x .replica) (y .replica) in
     record {
       restarts = λ r. restarted-fits x p e h (s .runs);
-      chooses = λ r n. chose-fits x p e h (s .runs);
+      chooses = λ r n. chose-fits x p e h (s .runs) n;
       finishes = finished-fits x p e h (s .runs);
       waits = waiting-fits x p e h (s .runs) (y .envelope .server) (ltb-true _ _ (lawful-told c (y .envelope) (g .envelope-lawful) .server-good));
     })

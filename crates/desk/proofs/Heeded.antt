@@ -12,10 +12,10 @@ use Rattle.config.specs.declared.answer.Verdict.{Verdict}
 use Rattle.config.specs.declared.answer.Verdict.the-variants.{Accepted, Refused}
 use Rattle.ledger.specs.Weights.{quorumOf}
 use Rattle.ledger.specs.Joins.{lacks}
-use Rattle.replica.specs.declared.envelope.Envelope.{Envelope}
+use Rattle.message.specs.declared.envelope.Envelope.{Envelope}
 use Rattle.replica.specs.declared.replica.Replica.{Replica}
 use Rattle.replica.specs.Replicas.{joinable, join}
-use Rattle.replica.specs.Envelopes.{receiveOf}
+use Rattle.message.specs.Answers.{receiveOf}
 use Rattle.desk.specs.declared.record.Desk.{Desk}
 use Rattle.desk.specs.declared.record.Heard.{Heard}
 use Rattle.desk.specs.Operations.{running}

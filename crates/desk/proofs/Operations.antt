@@ -12,8 +12,9 @@ use Rattle.config.specs.Cluster.{validOf}
 use Rattle.config.specs.declared.cluster.Config.{Config}
 use Rattle.ledger.specs.Maps.{mapOf}
 use Rattle.message.specs.Cursors.{within}
-use Rattle.replica.specs.Registers.{fits as fitsRegister}
-use Rattle.replica.proofs.Values.{empty-typed}
+use Rattle.replica.specs.Values.{valueFits}
+use Rattle.replica.specs.Registers.{registerFits}
+use Rattle.replica.proofs.Values.{empty-typed, empty-fits}
 use Rattle.replica.proofs.Registers.{start-typed, start-fits}
 use Rattle.desk.specs.declared.operation.Operation.{Operation}
 use Rattle.desk.specs.Operations.{none, running, ended, reading, writing, noOperation, modeLawful, kindLawful, phaseLawful, fits as fitsOperation, Typed}
@@ -25,8 +26,8 @@ pub record FitsOperation (c : Config) (round : ℕ) (o : Operation) : Type 0 whe
   pub phase-in : phaseLawful (o .mode) (o .phase) ≡ true
   pub answered-in : mapOf c (o .answered) ≡ true
   pub restarts-in : o .restarts ≤ round
-  pub value-short : o .value .length ≤ 64
-  pub chosen-fits : fitsRegister (o .chosen) ≡ true
+  pub value-fits : valueFits (o .value) ≡ true
+  pub chosen-fits : registerFits c (o .chosen) ≡ true
 
 pub operation-told : (c : Config) (round : ℕ) (o : Operation) → fitsOperation c round o ≡ true → FitsOperation c round o
 unfolding fitsOperation
@@ -36,14 +37,14 @@ operation-told c round o e =
     let p = both (phaseLawful (o .mode) (o .phase)) _ (k .1) in
     let a = both (mapOf c (o .answered)) _ (p .1) in
     let r = both (leb (o .restarts) round) _ (a .1) in
-    let v = both (leb (o .value .length) 64) _ (r .1) in
+    let v = both (valueFits (o .value)) _ (r .1) in
     record {
       mode-in = m .0;
       kind-in = k .0;
       phase-in = p .0;
       answered-in = a .0;
       restarts-in = leb-true (o .restarts) round (r .0);
-      value-short = leb-true (o .value .length) 64 (v .0);
+      value-fits = v .0;
       chosen-fits = v .1;
     }
 
@@ -56,7 +57,7 @@ told-operation c round o t =
       t .phase-in,
       t .answered-in,
       le-leb (o .restarts) round (t .restarts-in),
-      le-leb (o .value .length) 64 (t .value-short),
+      t .value-fits,
       t .chosen-fits,
     )
 
@@ -116,8 +117,8 @@ none-fits c round v =
       phase-in = refl;
       answered-in = none-answered c v;
       restarts-in = omega arith;
-      value-short = omega arith;
-      chosen-fits = start-fits;
+      value-fits = empty-fits;
+      chosen-fits = start-fits c;
     })
 
 pub none-typed : Typed noOperation

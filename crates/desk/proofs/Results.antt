@@ -9,12 +9,12 @@ use Rattle.config.specs.declared.answer.Verdict.{Verdict}
 use Rattle.ledger.proofs.Checks.{accepted-not-refused}
 use Rattle.replica.specs.Values.{bytesOf}
 use Rattle.replica.specs.Registers.{trimmed}
-use Rattle.replica.proofs.Values.{trimmed-bytes}
-use Rattle.replica.proofs.Registers.{fits-short}
+use Rattle.replica.proofs.Values.{trimmed-bytes, fits-short}
+use Rattle.replica.proofs.Registers.{fits-value}
 use Rattle.desk.specs.declared.record.Desk.{Desk}
 use Rattle.desk.specs.declared.result.Told.{Told}
 use Rattle.desk.specs.Operations.{running, ended}
-use Rattle.desk.specs.Desks.{fits, Typed}
+use Rattle.desk.specs.Desks.{fits}
 use Rattle.desk.specs.Results.{told, refused, resultOf}
 use Rattle.desk.proofs.Operations.{operation-told}
 use Rattle.desk.proofs.Desks.{fits-told}
@@ -38,7 +38,7 @@ unfolding resultOf
 result-running x e m = simp (e, ne-eqb (x .operation .mode) ended (λ d. omega arith))
 
 -- the bytes told are those chosen
-pub result-value : (x : Desk) → fits x ≡ true → Typed x → bytesOf (trimmed (x .operation .chosen) .value) ≡ bytesOf (x .operation .chosen .value)
-result-value x e t =
-    trimmed-bytes (x .operation .chosen .value) (t .operation-typed .chosen-typed .value-typed)
-    (fits-short (x .operation .chosen) (operation-told (x .config) (x .round) (x .operation) (fits-told x e .operation-fits) .chosen-fits))
+pub result-value : (x : Desk) → fits x ≡ true → bytesOf (trimmed (x .operation .chosen) .value) ≡ bytesOf (x .operation .chosen .value)
+result-value x e =
+    let chosen = operation-told (x .config) (x .round) (x .operation) (fits-told x e .operation-fits) .chosen-fits in
+    trimmed-bytes (x .operation .chosen .value) (fits-short (x .operation .chosen .value) (fits-value (x .config) (x .operation .chosen) chosen))

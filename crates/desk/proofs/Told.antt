@@ -10,12 +10,12 @@ use Rattle.config.specs.declared.answer.Refusal.{Refusal}
 use Rattle.config.specs.declared.answer.Verdict.{Verdict}
 use Rattle.ledger.specs.Weights.{quorumOf}
 use Rattle.ledger.specs.Joins.{lacks}
-use Rattle.replica.specs.declared.envelope.Envelope.{Envelope}
-use Rattle.replica.specs.declared.envelope.Received.{Received}
+use Rattle.message.specs.declared.envelope.Envelope.{Envelope}
+use Rattle.message.specs.declared.answer.Received.{Received}
 use Rattle.replica.specs.declared.replica.Replica.{Replica}
 use Rattle.replica.specs.declared.replica.Joined.{Joined}
 use Rattle.replica.specs.Replicas.{joinable, join, joinAnswer, accepted as joined, refused as notJoined}
-use Rattle.replica.specs.Envelopes.{receiveOf}
+use Rattle.message.specs.Answers.{receiveOf}
 use Rattle.replica.proofs.Told.{accepted-told, refused-told}
 use Rattle.desk.specs.declared.record.Desk.{Desk}
 use Rattle.desk.specs.Desks.{fits}

@@ -6,8 +6,9 @@ use lib.Dec.{eqb, ltb}
 use Rattle.config.specs.declared.answer.Refusal.{Refusal}
 use Rattle.config.specs.Refusals.{refusal}
 use Rattle.config.specs.declared.answer.Number.{Number}
-use Rattle.replica.specs.declared.envelope.Envelope.{Envelope}
-use Rattle.replica.specs.Envelopes.{request, messageOf, Written, place}
+use Rattle.message.specs.declared.envelope.Envelope.{Envelope}
+use Rattle.message.specs.Envelopes.{request, messageOf}
+use Rattle.message.specs.Answers.{Written, place}
 use Rattle.desk.specs.declared.record.Desk.{Desk}
 use Rattle.desk.specs.Operations.{running}
 use Rattle.desk.specs.Desks.{fits}

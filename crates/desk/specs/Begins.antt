@@ -2,11 +2,10 @@
 use Prim.Native.Nat.{ℕ, suc}
 use mathlib.Core.Bool.{cond}
 use mathlib.Core.List.{List}
-use lib.Dec.{eqb, leb, ltb}
-use lib.ListN.{length}
+use lib.Dec.{eqb, ltb}
 use Rattle.config.specs.Refusals.{refusal}
 use Rattle.replica.specs.declared.value.Value.{Value}
-use Rattle.replica.specs.Values.{valueOf, mostValue}
+use Rattle.replica.specs.Values.{valueFits, valueOf}
 use Rattle.desk.specs.declared.record.Desk.{Desk}
 use Rattle.desk.specs.declared.record.DeskAnswer.{DeskAnswer}
 use Rattle.desk.specs.Operations.{running, noOperation, begunOperation}
@@ -25,7 +24,7 @@ startOf x kind value note =
 -- Begin of a kind, with a note, 0 for none, and the value to be written, which for a read is empty: 14, 8, 12.
 unfoldable pub beginOf : Desk → ℕ → List ℕ → ℕ → DeskAnswer
 beginOf x kind v note =
-    cond (fits x) (cond (leb (length v) mostValue) (startOf x kind (valueOf v) note) (refused (refusal 14) x)) (refused (refusal 1) x)
+    cond (fits x) (cond (valueFits (valueOf v)) (startOf x kind (valueOf v) note) (refused (refusal 14) x)) (refused (refusal 1) x)
 
 -- no operation any more
 abbrev pub dropped : Desk → Desk

@@ -10,13 +10,14 @@ use Rattle.config.specs.declared.answer.Refusal.{Refusal}
 use Rattle.ledger.specs.Maps.{named}
 use Rattle.ledger.specs.Weights.{quorumOf}
 use Rattle.ledger.specs.Joins.{lacks}
-use Rattle.replica.specs.declared.envelope.Envelope.{Envelope}
+use Rattle.message.specs.declared.envelope.Envelope.{Envelope}
 use Rattle.replica.specs.declared.register.Register.{Register}
 use Rattle.replica.specs.declared.replica.Replica.{Replica}
 use Rattle.replica.specs.declared.replica.Joined.{Joined}
 use Rattle.replica.specs.Values.{emptyValue}
 use Rattle.replica.specs.Replicas.{joinable, join, accepted as joined, refused as notJoined}
-use Rattle.replica.specs.Envelopes.{reply, receiveOf}
+use Rattle.message.specs.Envelopes.{reply}
+use Rattle.message.specs.Answers.{receiveOf}
 use Rattle.desk.specs.declared.operation.Operation.{Operation}
 use Rattle.desk.specs.declared.record.Desk.{Desk}
 use Rattle.desk.specs.declared.record.Hearing.{Hearing}

@@ -7,8 +7,8 @@ use Rattle.config.specs.declared.cluster.Config.{Config}
 use Rattle.ledger.specs.Maps.{mapOf}
 use Rattle.message.specs.Cursors.{within}
 use Rattle.replica.specs.declared.value.Value.{Value}
-use Rattle.replica.specs.Values.{emptyValue, mostValue, Typed as TypedValue}
-use Rattle.replica.specs.Registers.{startRegister, fits as fitsRegister, Typed as TypedRegister}
+use Rattle.replica.specs.Values.{emptyValue, valueFits, Typed as TypedValue}
+use Rattle.replica.specs.Registers.{startRegister, registerFits, Typed as TypedRegister}
 use Rattle.desk.specs.declared.operation.Operation.{Operation}
 
 -- the modes: no operation, one that runs, one that has ended and whose result is kept
@@ -58,7 +58,7 @@ fits c round o =
     (cond (kindLawful (o .mode) (o .kind))
     (cond (phaseLawful (o .mode) (o .phase))
     (cond (mapOf c (o .answered))
-    (cond (leb (o .restarts) round) (cond (leb (o .value .length) mostValue) (fitsRegister (o .chosen)) false) false)
+    (cond (leb (o .restarts) round) (cond (valueFits (o .value)) (registerFits c (o .chosen)) false) false)
     false)
     false)
     false)

@@ -3,8 +3,9 @@ use super::operation::RUNNING;
 use super::record::Desk;
 use config::Number;
 use config::Refusal;
-use replica::Envelope;
-use replica::REQUEST;
+use message::Envelope;
+use message::REQUEST;
+use writer::write;
 ghost use mathlib.Core.Path.{_≡_};
 ghost use Rattle.desk.specs.Asks.{askOf};
 
@@ -33,6 +34,6 @@ impl Desk {
             round: self.round,
             note: operation.note,
         };
-        replica.send(config, envelope, out, at)
+        write(config, envelope, replica, out, at)
     }
 }

@@ -34,10 +34,11 @@ impl Desk {
         if !self.fits() {
             return self.refused(Refusal::BadHouse);
         }
-        if 64 < value.len() {
+        let value = Value::of(value);
+        if !value.fits() {
             return self.refused(Refusal::Long);
         }
-        self.start(WRITE, Value::of(value), note)
+        self.start(WRITE, value, note)
     }
 
     // The tests after those of the record and the value: 8, then 12.

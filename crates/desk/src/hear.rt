@@ -6,14 +6,14 @@ use super::record::Heard;
 use super::record::Hearing;
 use config::Refusal;
 use config::Verdict;
-use replica::Envelope;
+use message::Envelope;
+use message::REPLY;
+use reader::receive;
 use replica::Joined;
-use replica::REPLY;
 use replica::Replica;
-use replica::receive;
 ghost use mathlib.Core.Path.{_≡_};
 ghost use mathlib.Core.Bool.{true};
-ghost use Rattle.replica.specs.Envelopes.{Passed};
+ghost use Rattle.message.specs.Faults.{Passed};
 ghost use Rattle.desk.specs.Desks.{fits as fitsOf};
 ghost use Rattle.desk.specs.Hears.{accepted, late as lateOf, refused, moved as movedOf, stray as strayOf, timely as timelyOf, joinOf, hearFields, hearOf};
 

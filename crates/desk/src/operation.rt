@@ -137,11 +137,11 @@ impl Operation {
             return false;
         }
         let value = self.value;
-        if 64 < value.length {
+        if !value.fits() {
             return false;
         }
         let chosen = self.chosen;
-        chosen.fits()
+        chosen.fits(config)
     }
 }
 

@@ -24,7 +24,7 @@ use Rattle.ledger.specs.Weights.{weightOf, weightAnswer}
 use Rattle.ledger.proofs.Answers.{signed-not-refused}
 use Rattle.ledger.proofs.Majorities.{each-above}
 use Rattle.ledger.specs.declared.ledger.Ledger.{Ledger}
-use Rattle.message.specs.Answers.{check, decode}
+use Rattle.message.specs.Answers.{check, receiveOf}
 use Rattle.message.proofs.Bounds.{passed-above}
 use Rattle.reader.specs.Weighings.{weightIn}
 use Rattle.host.specs.Codes.{refusalCode}
@@ -54,6 +54,6 @@ weight-above c server msg w e =
     let none : check c msg ≡ 0 = eqb-true _ _ (passes .0) in
     let known = chosen-first (serverOf c server) _ _ _ (λ d. signed-not-refused _ _ (sym d)) (passes .1) in
     let server-is = both (validOf c) _ (known .0) in
-    let told : weightOf c (decode c msg .header .ledger) server ≡ w = cc in
-    let above = each-above c (decode c msg .header .ledger) (passed-above c msg none) server (ltb-true _ _ (server-is .1)) in
-    rw (sym told) (above-zero c (decode c msg .header .ledger) server above)
+    let told : weightOf c (receiveOf c msg .replica .ledger) server ≡ w = cc in
+    let above = each-above c (receiveOf c msg .replica .ledger) (passed-above c msg none) server (ltb-true _ _ (server-is .1)) in
+    rw (sym told) (above-zero c (receiveOf c msg .replica .ledger) server above)

@@ -9,8 +9,7 @@ use lib.Dec.{eqb, leb, ltb}
 use borrow.Author.Tests.{leb-true}
 use Rattle.config.specs.declared.answer.Refusal.{Refusal}
 use Rattle.config.specs.declared.answer.Number.{Number}
-use Rattle.message.specs.Answers.{fits}
-use Rattle.replica.specs.Envelopes.{Written, place}
+use Rattle.message.specs.Answers.{fits, Written, place}
 use Rattle.server.specs.declared.record.Server.{Server}
 use Rattle.server.specs.Servers.{fits as fitsServer}
 use Rattle.server.specs.Shares.{shareMessage, shareOf}

@@ -12,7 +12,7 @@ use Rattle.config.specs.declared.answer.Decision.{Decision}
 use Rattle.config.specs.declared.answer.Decision.the-variants.{Yes, No, Refused}
 use Rattle.ledger.specs.Ledgers.{accountsOf}
 use Rattle.ledger.specs.Maps.{named, mapOf}
-use Rattle.message.specs.Answers.{check, decode}
+use Rattle.message.specs.Answers.{check, receiveOf}
 use Rattle.reader.specs.Weighings.{quorumIn}
 use Rattle.reader.proofs.Published.{quorum-yes}
 use Rattle.host.specs.Codes.{decisionCode, quorumCode}
@@ -27,7 +27,7 @@ yes-told (Refused r) e = absurd (false≢true (ap (ltZ (pos 0)) (sym (refusal-is
 -- Definition 1: the number is 1 for a message that passes its checks and a set of servers that has more than half of the weight of all on its sheet.
 pub quorum-code : (c : Config) (map : ℕ) (msg : List ℕ)
     → (quorumCode c map msg ≡ pos 1)
-    ↔ ((check c msg ≡ 0) × (mapOf c map ≡ true) × WeightedMajority (c .n) (accountsOf c (decode c msg .header .ledger)) (named map))
+    ↔ ((check c msg ≡ 0) × (mapOf c map ≡ true) × WeightedMajority (c .n) (accountsOf c (receiveOf c msg .replica .ledger)) (named map))
 unfolding quorumCode
 quorum-code c map msg =
     (λ e. quorum-yes c map msg .0 (yes-told (quorumIn c map msg) e), λ t. ap decisionCode (quorum-yes c map msg .1 t))

@@ -13,7 +13,7 @@ use Rattle.format.specs.Bytes.{bytes, number, stands}
 use Rattle.format.proofs.Marks.{stands-none, stands-bit, stands-pos}
 use Rattle.format.proofs.Lengths.{bytes-length, number-same}
 use Rattle.message.specs.declared.state.Cursor.{Cursor}
-use Rattle.message.specs.Headers.{Bytes}
+use Rattle.message.specs.Envelopes.{Bytes}
 use Rattle.message.specs.Cursors.{stay, numberAt, within, readBytes, readNumber, skip, require}
 use Rattle.message.proofs.Sticky.{require-open}
 use Rattle.message.proofs.Moves.{require-passes, require-refuses}

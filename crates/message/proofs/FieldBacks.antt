@@ -13,7 +13,7 @@ use Rattle.format.specs.Table.{registerMark, register, head}
 use Rattle.format.proofs.Lengths.{number-same}
 use Rattle.format.proofs.Marks.{stands-none, stands-pos, stands-bit, bit-le}
 use Rattle.message.specs.declared.state.Cursor.{Cursor}
-use Rattle.message.specs.Headers.{Bytes}
+use Rattle.message.specs.Envelopes.{Bytes}
 use Rattle.message.specs.Cursors.{start, readNumber, skip}
 use Rattle.message.specs.Scans.{mapLawful, readMap, readKind, headOf, registerOf}
 use Rattle.message.proofs.Sticky.{readNumber-open, skip-open}

@@ -11,7 +11,7 @@ use Rattle.quorums.specs.Sum.{sum, all}
 use Rattle.quorums.specs.Difference.{difference}
 use Rattle.quorums.specs.Accounts.{weight, above}
 use Rattle.quorums.proofs.Sums.{sum-le, sum-const, below-suc}
-use Rattle.config.specs.Cluster.{configOf, validOf, startOf, totalOf, aboveOf, stampBytes}
+use Rattle.config.specs.Cluster.{configOf, validOf, startOf, totalOf, aboveOf, stampBytes, mostStamp}
 use Rattle.config.specs.declared.cluster.Config.{Config}
 use Rattle.ledger.specs.declared.ledger.Ledger.{Ledger}
 use Rattle.ledger.specs.Ledgers.{countOf, cellOf, givenOf, receivedOf}
@@ -24,10 +24,14 @@ use Rattle.format.specs.Table.{registerMark, register, cells, rowMark, cellMap,
 use Rattle.format.proofs.Lengths.{series-length}
 use Rattle.format.proofs.Sizes.{row-length, fields-length}
 use Rattle.format.proofs.Marks.{stands-le, stands-none}
-use Rattle.message.specs.declared.header.Header.{Header}
-use Rattle.message.specs.Headers.{fieldsOf, encode, Bytes, Typed}
-use Rattle.message.specs.Answers.{check, decode}
-use Rattle.message.specs.Faults.{kindFits, registerFits, faultOf}
+use Rattle.replica.specs.declared.replica.Replica.{Replica}
+use Rattle.replica.specs.Values.{valueFits, bytesOf}
+use Rattle.replica.specs.Registers.{isStart, registerFits}
+use Rattle.replica.specs.Replicas.{Typed as TypedReplica}
+use Rattle.message.specs.declared.envelope.Envelope.{Envelope}
+use Rattle.message.specs.Envelopes.{carried, fieldsOf, messageOf, Bytes, Typed}
+use Rattle.message.specs.Answers.{check, receiveOf}
+use Rattle.message.specs.Faults.{kindFits, faultOf}
 use Rattle.message.specs.Cursors.{within}
 use Rattle.message.proofs.Faults.{fault-is-check}
 use Rattle.message.proofs.Found.{taken-told}
@@ -35,7 +39,7 @@ use Rattle.message.proofs.Registers.{fits-good}
 use Rattle.message.proofs.GoodRows.{own-empty}
 use Rattle.message.proofs.Sheets.{good-rows}
 use Rattle.message.proofs.SheetBacks.{table-most}
-use Rattle.message.proofs.Rounds.{encode-decode, decode-typed}
+use Rattle.message.proofs.Rounds.{message-again, received-typed}
 
 -- ---- lengths
 
@@ -67,29 +71,30 @@ rows-short c l b =
     )
 
 -- what the writer takes has at most 1,111 bytes
-pub written-short : (c : Config) (h : Header) (v : List ℕ) → Typed h v → check c (encode c h v) ≡ 0 → length (encode c h v) ≤ 1111
-unfolding encode stampBytes
-written-short c h v ty e =
-    let t = taken-told c h v ty e in
-    let x = fieldsOf h v in
+pub written-short : (c : Config) (e : Envelope) (r : Replica) → Typed e → TypedReplica r → check c (messageOf c e r) ≡ 0 → length (messageOf c e r) ≤ 1111
+unfolding messageOf stampBytes
+written-short c e r te tr clean =
+    let t = taken-told c e r te tr clean in
+    let x = fieldsOf e r in
     omega (
       arith,
       fields-length c x,
-      stands-le (h .desk),
-      stands-le (h .round),
-      stands-le (registerMark (h .tag .stamp) (h .tag .desk) (length v)),
-      stands-le (rowMap (countOf (h .ledger)) (cellOf (h .ledger))),
-      stands-le (h .note),
-      fits-good _ _ _ (t .register-good) .short,
-      rows-short c (h .ledger) (t .ledger-good),
+      stands-le (e .desk),
+      stands-le (e .round),
+      stands-le (registerMark (r .register .stamp) (r .register .desk) (length (carried r))),
+      stands-le (rowMap (countOf (r .ledger)) (cellOf (r .ledger))),
+      stands-le (e .note),
+      fits-good c (r .register) (t .register-good) .short,
+      rows-short c (r .ledger) (t .ledger-good),
     )
 
 -- and so has what the reader takes
 pub longest : (c : Config) (msg : List ℕ) → Bytes msg → check c msg ≡ 0 → length msg ≤ 1111
 longest c msg b e =
-    let same = encode-decode c msg b e in
-    let taken : check c (encode c (decode c msg .header) (decode c msg .value)) ≡ 0 = ap (check c) same ∙ e in
-    omega (arith, ap length same, written-short c (decode c msg .header) (decode c msg .value) (decode-typed c msg b e) taken)
+    let same = message-again c msg b e in
+    let typed = received-typed c msg b e in
+    let taken : check c (messageOf c (receiveOf c msg .envelope) (receiveOf c msg .replica)) ≡ 0 = ap (check c) same ∙ e in
+    omega (arith, ap length same, written-short c (receiveOf c msg .envelope) (receiveOf c msg .replica) (typed .0) (typed .1) taken)
 
 -- ---- a message of 1,111 bytes: 16 servers, each of which gave 1 to each other one; a request with every field, and a value of 64 bytes
 
@@ -99,29 +104,27 @@ crowd = configOf 16 7
 exchanged : Ledger
 exchanged = record { counts = table 16 (λ i. 15); cells = table 256 (λ k. cond (eqb (k / 16) (k % 16)) 0 1) }
 
-pub fullHeader : Header
-fullHeader =
-    record { kind = 1; server = 15; desk = 1; round = 1; tag = record { stamp = 1; desk = 1 }; ledger = exchanged; note = 1 }
+pub fullEnvelope : Envelope
+fullEnvelope = record { kind = 1; server = 15; desk = 1; round = 1; note = 1 }
 
-pub fullValue : List ℕ
-fullValue = replicate 64 255
+pub fullReplica : Replica
+fullReplica =
+    record { ledger = exchanged; register = record { stamp = 1; desk = 1; value = record { length = 64; bytes = replicate 64 255 } } }
 
-full-length : length (encode crowd fullHeader fullValue) ≡ 1111
-unfolding crowd fullHeader fullValue exchanged encode encodeFields fieldMapOf fieldMap head register registerMark sheet rows row cells cellMap rowMark rowMap note
+full-length : length (messageOf crowd fullEnvelope fullReplica) ≡ 1111
+unfolding crowd fullEnvelope fullReplica exchanged messageOf bytesOf encodeFields fieldMapOf fieldMap head register registerMark sheet rows row cells cellMap rowMark rowMap note
     number series marks stands bytes sum table run stampBytes
 full-length = refl
 
-full-typed : Typed fullHeader fullValue
-unfolding fullHeader fullValue exchanged
-full-typed =
+full-envelope : Typed fullEnvelope
+unfolding fullEnvelope
+full-envelope =
+    record { kind-fits = omega arith; server-fits = omega arith; desk-fits = omega arith; round-fits = omega arith; note-fits = omega arith }
+
+full-replica : TypedReplica fullReplica
+unfolding fullReplica exchanged
+full-replica =
     record {
-      kind-fits = omega arith;
-      server-fits = omega arith;
-      desk-fits = omega arith;
-      round-fits = omega arith;
-      stamp-fits = omega arith;
-      tag-desk-fits = omega arith;
-      note-fits = omega arith;
       ledger-typed =
           record {
             counts-length = table-length 16 _;
@@ -129,24 +132,28 @@ full-typed =
             count-fits = table-most 16 _ 65535 (λ i. omega arith);
             cell-fits = table-most 256 _ 4294967295 (λ k. small (eqb (k / 16) (k % 16)));
           };
-      value-bytes = record { byte = replicate-most 64 255 };
+      register-typed =
+          record {
+            stamp-fits = omega arith;
+            desk-fits = omega arith;
+            value-typed = record { bytes-length = refl; length-fits = omega arith; byte-fits = replicate-most 64 255 };
+          };
     }
   where
     small : (b : Bool) → cond b 0 1 ≤ 4294967295
     small true = omega arith
     small false = omega arith
 
-    replicate-most : (n x k : ℕ) → getD (replicate n x) k 0 < suc x
+    replicate-most : (n x k : ℕ) → getD (replicate n x) k 0 ≤ x
     replicate-most zero x k = omega arith
     replicate-most (suc n) x zero = omega arith
     replicate-most (suc n) x (suc k) = replicate-most n x k
 
-full-taken : faultOf crowd fullHeader 64 ≡ 0
-unfolding crowd fullHeader exchanged faultOf validOf kindFits registerFits registerMark within bounded aboveFloor all mayHold totalFits givenOf sum table run
-    aboveOf above totalOf startOf weightOf weight difference receivedOf
+full-taken : faultOf crowd fullEnvelope fullReplica ≡ 0
+unfolding crowd fullEnvelope fullReplica exchanged faultOf validOf kindFits registerFits isStart valueFits mostStamp stampBytes within bounded aboveFloor all mayHold totalFits givenOf sum table
+    run aboveOf above totalOf startOf weightOf weight difference receivedOf
 full-taken = refl
 
 -- the reader takes it
-pub one-as-long : (check crowd (encode crowd fullHeader fullValue) ≡ 0) × (length (encode crowd fullHeader fullValue) ≡ 1111)
-unfolding fullValue
-one-as-long = (fault-is-check crowd fullHeader fullValue full-typed ∙ full-taken, full-length)
+pub one-as-long : (check crowd (messageOf crowd fullEnvelope fullReplica) ≡ 0) × (length (messageOf crowd fullEnvelope fullReplica) ≡ 1111)
+one-as-long = (fault-is-check crowd fullEnvelope fullReplica full-envelope full-replica ∙ full-taken, full-length)

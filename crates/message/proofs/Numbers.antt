@@ -18,7 +18,7 @@ use Rattle.ledger.proofs.Checks.{accepted-not-refused}
 use Rattle.message.specs.declared.state.Cursor.{Cursor}
 use Rattle.message.specs.Cursors.{start, numberAt, within, readBytes, readNumber, skip, require}
 use Rattle.message.specs.Scans.{cellsAfter, readCount, cellMapOf, rowOf, rowsAfter, readMap, readKind, headOf, registerOf, sheetOf, readNote, endOf, scanOf}
-use Rattle.message.specs.Answers.{check, decode, verdictOf, checkAnswer}
+use Rattle.message.specs.Answers.{check, verdictOf, checkAnswer, acceptedOf, refusedOf, receiveOf}
 
 either : (b : Bool) (x y : Cursor) → x .number ≤ 5 → y .number ≤ 5 → cond b x y .number ≤ 5
 either true x y p q = p
@@ -116,11 +116,11 @@ pub refused-check : (k : ℕ) (n : Refusal) → verdictOf k ≡ Verdict.Refused 
 unfolding verdictOf
 refused-check k n e = chosen-second (eqb k 0) Verdict.Accepted (Verdict.Refused (refusal k)) (Verdict.Refused n) (accepted-not-refused n) e
 
--- the number of what was read is that of the check
-pub decode-number : (c : Config) (msg : List ℕ) → decode c msg .number ≡ check c msg
-unfolding decode
-decode-number c msg = by-test (eqb (check c msg) 0) refl
+-- what is received has the verdict of the check
+pub received-verdict : (c : Config) (msg : List ℕ) → receiveOf c msg .verdict ≡ verdictOf (check c msg)
+unfolding receiveOf verdictOf
+received-verdict c msg = by-test (eqb (check c msg) 0)
   where
-    by-test : (b : Bool) → eqb (check c msg) 0 ≡ b → decode c msg .number ≡ check c msg
-    by-test true e = rw e (sym (eqb-true (check c msg) 0 e))
-    by-test false e = rw e refl
+    by-test : (b : Bool) → cond b (acceptedOf (scanOf c msg) msg) (refusedOf (refusal (check c msg))) .verdict ≡ cond b Verdict.Accepted (Verdict.Refused (refusal (check c msg)))
+    by-test true = refl
+    by-test false = refl

@@ -1,12 +1,10 @@
 -- A reader at the bytes of a register finds its tag and its value where the register is good, and refuses it by 4 where it isn't.
-use Prim.Native.Nat.{ℕ, zero, suc, _+_, _<_, _≤_, min}
+use Prim.Native.Nat.{ℕ, _+_, _<_, _≤_, min}
 use native.Mathlib.Omega.{arith}
 use mathlib.Core.Path.{_≡_, refl, sym, ap, _∙_}
 use mathlib.Core.Logic.{_⊎_, inl, inr, ⊎-elim}
-use mathlib.Core.Bool.{Bool, true, false, cond}
+use mathlib.Core.Bool.{Bool, true, false}
 use mathlib.Core.List.{List, _++_, append-assoc}
-use borrow.Author.Tests.{eqb-true, eqb-false, leb-true, eq-eqb, ne-eqb, le-leb}
-use lib.Dec.{eqb, leb}
 use lib.ListN.{length, take, drop}
 use lib.Seq.{take-append-seam, drop-append-seam}
 use Rattle.quorums.proofs.Tests.{le-or-lt}
@@ -14,17 +12,17 @@ use Rattle.config.specs.Cluster.{stampBytes, mostStamp}
 use Rattle.config.specs.declared.cluster.Config.{Config}
 use Rattle.format.specs.Bytes.{number, stands}
 use Rattle.format.specs.Table.{registerMark, register}
+use Rattle.replica.specs.declared.register.Register.{Register}
+use Rattle.replica.specs.Values.{bytesOf}
+use Rattle.replica.specs.Registers.{isStart, registerFits, Typed as TypedRegister}
+use Rattle.replica.proofs.Values.{bytes-length, fits-short, short-fits}
+use Rattle.replica.proofs.Registers.{start-told, start-shown, start-passes, fits-tagged, tagged-fits, typed-stamp, fits-value}
 use Rattle.message.specs.declared.state.Cursor.{Cursor}
 use Rattle.message.specs.Cursors.{readNumber}
 use Rattle.message.specs.Scans.{registerOf}
-use Rattle.message.specs.Faults.{registerFits}
 use Rattle.message.proofs.Stuck.{Stuck, readNumber-stuck, skip-stuck}
 use Rattle.message.proofs.Ahead.{apart, past}
 use Rattle.message.proofs.Moves.{in-range, below-range, above-range, Stands, behind, behind-stands, move, refuse, skip-move}
-
-positive : (x : ℕ) → (x ≡ 0 → ⊥) → 1 ≤ x
-positive zero h = absurd (h refl)
-positive (suc x) h = omega arith
 
 -- The register is the start, or has a stamp, a desk and a value of up to 64 bytes.
 pub record RegisterGood (stamp desk n : ℕ) : Type 0 where
@@ -32,40 +30,38 @@ pub record RegisterGood (stamp desk n : ℕ) : Type 0 where
   pub desk-stands : 0 < registerMark stamp desk n → 1 ≤ desk
   pub short : n ≤ 64
 
-unless : (b d : Bool) → cond b false d ≡ true → (b ≡ false) × (d ≡ true)
-unless true d e = let z : _≡_ {A = ℕ} 0 1 = ap (λ x. cond x 1 0) e in absurd (omega arith)
-unless false d e = (refl, e)
-
-pub fits-good : (stamp desk n : ℕ) → registerFits stamp desk n ≡ true → RegisterGood stamp desk n
-unfolding registerFits registerMark
-fits-good stamp desk n e = by-mark (eqb (stamp + desk + n) 0) refl e
+pub fits-good : (c : Config) (g : Register) → registerFits c g ≡ true → RegisterGood (g .stamp) (g .desk) (length (bytesOf (g .value)))
+unfolding registerMark
+fits-good c g e = by-start (isStart g) refl
   where
-    by-mark : (b : Bool) → eqb (stamp + desk + n) 0 ≡ b → cond b true (cond (eqb stamp 0) false (cond (eqb desk 0) false (leb n 64))) ≡ true
-        → RegisterGood stamp desk n
-    by-mark true m d =
-        let z : stamp + desk + n ≡ 0 = eqb-true (stamp + desk + n) 0 m in
-        record { stamp-stands = λ p. absurd (omega arith); desk-stands = λ p. absurd (omega arith); short = omega arith }
-    by-mark false m d =
-        let p = unless (eqb stamp 0) _ d in
-        let q = unless (eqb desk 0) _ (p .1) in
-        record {
-          stamp-stands = λ h. positive stamp (eqb-false stamp 0 (p .0));
-          desk-stands = λ h. positive desk (eqb-false desk 0 (q .0));
-          short = leb-true n 64 (q .1);
-        }
+    short : length (bytesOf (g .value)) ≤ 64
+    short = omega (arith, bytes-length (g .value), fits-short (g .value) (fits-value c g e))
 
-pub good-fits : (stamp desk n : ℕ) → RegisterGood stamp desk n → registerFits stamp desk n ≡ true
-unfolding registerFits
-good-fits stamp desk n g =
-    ⊎-elim (λ (z : registerMark stamp desk n ≤ 0). simp (eq-eqb (registerMark stamp desk n) 0 (omega arith)))
-    (λ (p : 0 < registerMark stamp desk n).
-    simp (
-      ne-eqb (registerMark stamp desk n) 0 (λ e. omega arith),
-      ne-eqb stamp 0 (λ e. omega (arith, g .stamp-stands p)),
-      ne-eqb desk 0 (λ e. omega (arith, g .desk-stands p)),
-      le-leb n 64 (g .short),
-    ))
-    (le-or-lt (registerMark stamp desk n) 0)
+    by-start : (b : Bool) → isStart g ≡ b → RegisterGood (g .stamp) (g .desk) (length (bytesOf (g .value)))
+    by-start true s =
+        let t = start-told g s in
+        let none : g .stamp + g .desk + length (bytesOf (g .value)) ≡ 0 = omega (arith, t .0, t .1, t .2, bytes-length (g .value)) in
+        record { stamp-stands = λ p. absurd (omega arith); desk-stands = λ p. absurd (omega arith); short = short }
+    by-start false s =
+        let t = fits-tagged c g e s in
+        record { stamp-stands = λ p. t .stamp-stands; desk-stands = λ p. t .desk-stands; short = short }
+
+pub good-fits : (c : Config) (g : Register) → TypedRegister g → RegisterGood (g .stamp) (g .desk) (length (bytesOf (g .value)))
+    → registerFits c g ≡ true
+unfolding registerMark
+good-fits c g t r =
+    let size = bytes-length (g .value) in
+    ⊎-elim
+    (λ (z : g .stamp + g .desk + length (bytesOf (g .value)) ≤ 0).
+    start-passes c g (start-shown g (omega arith) (omega arith) (omega (arith, size))))
+    (λ (p : 0 < g .stamp + g .desk + length (bytesOf (g .value))).
+    tagged-fits c g (record {
+      stamp-stands = r .stamp-stands p;
+      stamp-most = typed-stamp c g t;
+      desk-stands = r .desk-stands p;
+      value-fits = short-fits (g .value) (omega (arith, size, r .short));
+    }))
+    (le-or-lt (g .stamp + g .desk + length (bytesOf (g .value))) 0)
 
 -- ---- a reader before a register
 
@@ -210,11 +206,9 @@ module _ (c : Config) (msg pre t : List ℕ) (from : Cursor) (stamp desk : ℕ) 
       (le-or-lt stamp 0))
       (le-or-lt (registerMark stamp desk (length v)) 0)
 
-  pub register-refused : registerFits stamp desk (length v) ≡ false → Stuck (registerOf c msg (stands (registerMark stamp desk (length v))) from .cursor) 3
+  pub register-refused : (RegisterGood stamp desk (length v) → ⊥) → Stuck (registerOf c msg (stands (registerMark stamp desk (length v))) from .cursor) 3
   unfolding mark
-  register-refused e =
-      ⊎-elim
-      (λ (g : RegisterGood stamp desk (length v)).
-      let z : _≡_ {A = ℕ} 0 1 = ap (λ b. cond b 0 1) (sym (good-fits stamp desk (length v) g) ∙ e) in absurd (omega arith))
+  register-refused bad =
+      ⊎-elim (λ (g : RegisterGood stamp desk (length v)). absurd (bad g))
       (λ (s : Stuck (registerOf c msg (stands (registerMark stamp desk (length v))) from .cursor) 3). s)
       decides

@@ -18,15 +18,21 @@ use Rattle.ledger.specs.Ledgers.{countOf, cellOf}
 use Rattle.format.specs.Bytes.{number, stands, bit}
 use Rattle.format.specs.Table.{registerMark, register, rowMap, sheet, fieldMap, fieldMapOf, head, note, encodeFields}
 use Rattle.format.proofs.Marks.{stands-bit, bit-le, marks-bit, marks-stand}
-use Rattle.message.specs.declared.header.Header.{Header}
+use Rattle.replica.specs.declared.replica.Replica.{Replica}
+use Rattle.replica.specs.Values.{valueOf}
+use Rattle.replica.specs.Replicas.{Typed as TypedReplica}
+use Rattle.replica.proofs.Values.{bytes-of-value, value-typed}
+use Rattle.message.specs.declared.envelope.Envelope.{Envelope}
+use Rattle.message.specs.declared.answer.Received.{Received}
 use Rattle.message.specs.declared.state.Cursor.{Cursor}
-use Rattle.message.specs.Headers.{encode, Bytes, Typed}
+use Rattle.message.specs.Envelopes.{carried, messageOf, Bytes, Typed}
 use Rattle.message.specs.Scans.{mapLawful, headOf, registerOf, sheetOf, readNote, endOf, scanOf}
-use Rattle.message.specs.Answers.{check, Decoded, decode}
+use Rattle.message.specs.Answers.{check, replicaOf, acceptedOf, receiveOf}
 use Rattle.message.proofs.Sticky.{require-open, register-open, sheet-open, note-open, end-open}
 use Rattle.message.proofs.Backs.{Passed, Got, number-got, got-mark, own-mark, require-got}
 use Rattle.message.proofs.FieldBacks.{HeadBack, head-back, RegisterBack, register-back}
 use Rattle.message.proofs.SheetBacks.{SheetBack, sheet-back, ledger-typed}
+use Rattle.message.proofs.Parts.{register-short}
 
 -- a lawful map is that of fields that stand where its bits do
 lawful-small : (m : ℕ) → mapLawful m ≡ true → m < 128
@@ -176,28 +182,58 @@ module _ (c : Config) (valid : validOf c ≡ true) (msg : List ℕ) (b : Bytes m
       map-back (headOf c msg .map) _ _ _ _ _ (head-is .map-lawful) (head-is .desk-mark) (head-is .round-mark) (register-is .register-mark)
       (sheet-is .sheet-mark) note-mark
 
-  found : Header
-  found =
+  short : length value ≤ 64
+  unfolding value
+  short =
+      let part = drop (registerOf c msg (bit map 4) headEnd .from) msg in
+      omega (arith, register-short c msg (bit map 4) headEnd, length-take (registerOf c msg (bit map 4) headEnd .length) part)
+
+  envelope : Envelope
+  envelope =
       record {
         kind = headOf c msg .kind;
         server = headOf c msg .server;
         desk = headOf c msg .desk;
         round = headOf c msg .round;
-        tag = record { stamp = registerOf c msg (bit map 4) headEnd .stamp; desk = registerOf c msg (bit map 4) headEnd .desk };
-        ledger = ledger;
         note = noteRead .x;
       }
 
-  found-is : scanOf c msg .header ≡ found
-  unfolding scanOf found noteRead ledger sheetEnd registerEnd headEnd map
-  found-is = refl
+  replica : Replica
+  replica =
+      record {
+        ledger = ledger;
+        register =
+            record {
+              stamp = registerOf c msg (bit map 4) headEnd .stamp;
+              desk = registerOf c msg (bit map 4) headEnd .desk;
+              value = valueOf value;
+            };
+      }
 
-  value-is : take (scanOf c msg .length) (drop (scanOf c msg .from) msg) ≡ value
-  unfolding scanOf value headEnd map
-  value-is = refl
+  envelope-is : scanOf c msg .envelope ≡ envelope
+  unfolding scanOf envelope noteRead sheetEnd registerEnd headEnd map
+  envelope-is = refl
 
-  found-bytes : encode c found value ≡ msg
-  unfolding encode encodeFields fieldMapOf found headBytes registerBytes sheetBytes
+  replica-is : replicaOf (scanOf c msg) msg ≡ replica
+  unfolding scanOf replica value ledger registerEnd headEnd map
+  replica-is = refl
+
+  carried-is : carried replica ≡ value
+  unfolding replica
+  carried-is = bytes-of-value value short
+
+  -- the bytes of these fields, with the value v
+  bytesWith : List ℕ → List ℕ
+  bytesWith v =
+      let mark = registerMark (replica .register .stamp) (replica .register .desk) (length v) in
+      head (fieldMap (envelope .desk) (envelope .round) mark (rowMap (countOf (replica .ledger)) (cellOf (replica .ledger))) (envelope .note))
+      (envelope .kind) (envelope .server) (envelope .desk) (envelope .round)
+      ++ register c (replica .register .stamp) (replica .register .desk) v
+      ++ sheet (countOf (replica .ledger)) (cellOf (replica .ledger))
+      ++ note (envelope .note)
+
+  found-bytes : bytesWith value ≡ msg
+  unfolding bytesWith envelope replica headBytes registerBytes sheetBytes
   found-bytes =
       ap
       (λ m.
@@ -205,26 +241,37 @@ module _ (c : Config) (valid : validOf c ≡ true) (msg : List ℕ) (b : Bytes m
       field-map
       ∙ sym msg-is
 
-  bytes-back : encode c (scanOf c msg .header) (take (scanOf c msg .length) (drop (scanOf c msg .from) msg)) ≡ msg
-  bytes-back = ap₂ (encode c) found-is value-is ∙ found-bytes
+  bytes-back : messageOf c envelope replica ≡ msg
+  unfolding messageOf encodeFields fieldMapOf bytesWith
+  bytes-back = ap bytesWith carried-is ∙ found-bytes
 
-  found-typed : Typed found value
-  unfolding found ledger value
-  found-typed =
-      record {
-        kind-fits = omega (arith, head-is .kind-fits);
-        server-fits = omega (arith, head-is .server-fits, valid-bounds c valid .most);
-        desk-fits = head-is .desk-fits;
-        round-fits = head-is .round-fits;
-        stamp-fits = register-is .stamp-fits;
-        tag-desk-fits = register-is .desk-fits;
-        note-fits = note-got .high-holds;
-        ledger-typed = ledger-typed c msg _ _;
-        value-bytes = part-bytes msg b (registerOf c msg (bit map 4) headEnd .length) (registerOf c msg (bit map 4) headEnd .from);
-      }
+  pub scan-back : messageOf c (scanOf c msg .envelope) (replicaOf (scanOf c msg) msg) ≡ msg
+  scan-back = ap₂ (messageOf c) envelope-is replica-is ∙ bytes-back
 
-  scan-typed : Typed (scanOf c msg .header) (take (scanOf c msg .length) (drop (scanOf c msg .from) msg))
-  scan-typed = rw (found-is, value-is) found-typed
+  found-typed : Typed envelope × TypedReplica replica
+  unfolding envelope replica ledger value
+  found-typed = (
+    record {
+      kind-fits = omega (arith, head-is .kind-fits);
+      server-fits = omega (arith, head-is .server-fits, valid-bounds c valid .most);
+      desk-fits = head-is .desk-fits;
+      round-fits = head-is .round-fits;
+      note-fits = note-got .high-holds;
+    },
+    record {
+      ledger-typed = ledger-typed c msg _ _;
+      register-typed =
+          record {
+            stamp-fits = register-is .stamp-fits;
+            desk-fits = register-is .desk-fits;
+            value-typed = value-typed _
+                (part-bytes msg b (registerOf c msg (bit map 4) headEnd .length) (registerOf c msg (bit map 4) headEnd .from) .byte);
+          };
+    },
+  )
+
+  pub scan-typed : Typed (scanOf c msg .envelope) × TypedReplica (replicaOf (scanOf c msg) msg)
+  scan-typed = rw (envelope-is, replica-is) found-typed
 
 -- where the reader finds no fault, the cluster is lawful and the scan has passed
 pub check-told : (c : Config) (msg : List ℕ) → check c msg ≡ 0 → (validOf c ≡ true) × (scanOf c msg .number ≡ 0)
@@ -235,17 +282,18 @@ check-told c msg e = by-valid (validOf c) refl e
     by-valid true v d = (v, d)
     by-valid false v d = absurd (omega arith)
 
-pub decoded : (c : Config) (msg : List ℕ) → check c msg ≡ 0
-    → decode c msg ≡ record { number = 0; header = scanOf c msg .header; value = take (scanOf c msg .length) (drop (scanOf c msg .from) msg) }
-unfolding decode
-decoded c msg e = simp (eq-eqb (check c msg) 0 e)
+-- what is then received is what the scan found
+pub received : (c : Config) (msg : List ℕ) → check c msg ≡ 0 → receiveOf c msg ≡ acceptedOf (scanOf c msg) msg
+unfolding receiveOf
+received c msg e = simp (eq-eqb (check c msg) 0 e)
 
--- writing undoes reading
-pub encode-decode : (c : Config) (msg : List ℕ) → Bytes msg → check c msg ≡ 0 → encode c (decode c msg .header) (decode c msg .value) ≡ msg
-encode-decode c msg b e =
-    let t = check-told c msg e in
-    ap (λ (d : Decoded). encode c (d .header) (d .value)) (decoded c msg e) ∙ bytes-back c (t .0) msg b (t .1)
+module _ (c : Config) (msg : List ℕ) (b : Bytes msg) (e : check c msg ≡ 0) where
+  -- writing undoes reading
+  pub message-again : messageOf c (receiveOf c msg .envelope) (receiveOf c msg .replica) ≡ msg
+  message-again =
+      let t = check-told c msg e in
+      ap (λ (x : Received). messageOf c (x .envelope) (x .replica)) (received c msg e) ∙ scan-back c (t .0) msg b (t .1)
 
--- what the reader takes is a header and a value that a call can have
-pub decode-typed : (c : Config) (msg : List ℕ) → Bytes msg → check c msg ≡ 0 → Typed (decode c msg .header) (decode c msg .value)
-decode-typed c msg b e = let t = check-told c msg e in rw (decoded c msg e) (scan-typed c (t .0) msg b (t .1))
+  -- what the reader takes is an envelope and a replica that a call can have
+  pub received-typed : Typed (receiveOf c msg .envelope) × TypedReplica (receiveOf c msg .replica)
+  received-typed = let t = check-told c msg e in rw (received c msg e) (scan-typed c (t .0) msg b (t .1))

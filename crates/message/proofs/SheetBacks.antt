@@ -20,7 +20,7 @@ use Rattle.format.proofs.Lengths.{number-same, series-next}
 use Rattle.format.proofs.Marks.{stands-none, stands-zero, stands-bit, stands-same, bit-le, marks-bit, marks-stand, bit-none}
 use Rattle.format.proofs.Same.{SameSheet, rowMap-same, rows-same}
 use Rattle.message.specs.declared.state.Cursor.{Cursor}
-use Rattle.message.specs.Headers.{Bytes}
+use Rattle.message.specs.Envelopes.{Bytes}
 use Rattle.message.specs.Cursors.{readNumber}
 use Rattle.message.specs.Scans.{cellsAfter, cellRead, readCount, cellMapOf, rowCells, rowOf, rowsAfter, countRead, cellOfRow, ledgerRead, sheetOf}
 use Rattle.message.proofs.Sticky.{readNumber-open, require-open, cells-open, row-open, rows-sooner, rows-open}

@@ -1,37 +1,29 @@
 -- What the calls answer (paper 01, "Message bytes" and "Numbers handed out").
-use Prim.Native.Nat.{ℕ, _+_}
-use mathlib.Core.Bool.{Bool, false, cond}
+use Prim.Native.Nat.{ℕ, _+_, _-_}
+use mathlib.Core.Bool.{Bool, cond}
 use mathlib.Core.List.{List, [], _++_}
 use lib.ListN.{length, take, drop}
 use lib.Dec.{eqb, leb}
 use Rattle.config.specs.Cluster.{validOf}
 use Rattle.config.specs.declared.cluster.Config.{Config}
 use Rattle.config.specs.Refusals.{refusal}
+use Rattle.config.specs.declared.answer.Refusal.{Refusal}
 use Rattle.config.specs.declared.answer.Verdict.{Verdict}
 use Rattle.config.specs.declared.answer.Number.{Number}
-use Rattle.message.specs.declared.header.Header.{Header}
+use Rattle.replica.specs.declared.replica.Replica.{Replica}
+use Rattle.replica.specs.Values.{valueOf}
+use Rattle.replica.specs.Replicas.{freshReplica}
+use Rattle.message.specs.declared.envelope.Envelope.{Envelope}
+use Rattle.message.specs.declared.answer.Received.{Received}
 use Rattle.message.specs.declared.answer.Fields.{Fields}
-use Rattle.message.specs.declared.answer.Parts.{Parts}
-use Rattle.message.specs.Headers.{blankHeader, encode}
-use Rattle.message.specs.Scans.{scanOf}
+use Rattle.message.specs.Envelopes.{blankEnvelope, messageOf}
+use Rattle.message.specs.Scans.{Scan, scanOf}
 
 -- ---- reading
 
 -- the first fault of a message: 1 for the cluster, then the message checks; 0 for none
 unfoldable pub check : Config → List ℕ → ℕ
 check c msg = cond (validOf c) (scanOf c msg .number) 1
-
--- What bytes say: the number, and where that is 0 the header and the value.
-pub record Decoded : Type 0 where
-  pub number : ℕ
-  pub header : Header
-  pub value : List ℕ
-
-unfoldable pub decode : Config → List ℕ → Decoded
-decode c msg =
-    cond (eqb (check c msg) 0)
-    (record { number = 0; header = scanOf c msg .header; value = take (scanOf c msg .length) (drop (scanOf c msg .from) msg) })
-    (record { number = check c msg; header = blankHeader; value = [] })
 
 -- 0 is no fault
 unfoldable pub verdictOf : ℕ → Verdict
@@ -40,21 +32,41 @@ verdictOf k = cond (eqb k 0) Verdict.Accepted (Verdict.Refused (refusal k))
 unfoldable pub checkAnswer : Config → List ℕ → Verdict
 checkAnswer c msg = verdictOf (check c msg)
 
+-- the part of a message where a scan says that the value lies
+abbrev pub valuePart : Scan → List ℕ → List ℕ
+valuePart s msg = take (s .length) (drop (s .from) msg)
+
+-- the replica that a scan found
+abbrev pub replicaOf : Scan → List ℕ → Replica
+replicaOf s msg =
+    record { ledger = s .ledger; register = record { stamp = s .tag .stamp; desk = s .tag .desk; value = valueOf (valuePart s msg) } }
+
+abbrev pub acceptedOf : Scan → List ℕ → Received
+acceptedOf s msg = record { verdict = Verdict.Accepted; envelope = s .envelope; replica = replicaOf s msg }
+
+-- a message that is refused says nothing
+abbrev pub refusedOf : Refusal → Received
+refusedOf k = record { verdict = Verdict.Refused k; envelope = blankEnvelope; replica = freshReplica }
+
+-- What bytes say: an envelope and a replica, or the number of the first fault.
+unfoldable pub receiveOf : Config → List ℕ → Received
+receiveOf c msg = cond (eqb (check c msg) 0) (acceptedOf (scanOf c msg) msg) (refusedOf (refusal (check c msg)))
+
+-- "another call gives the other fields or the number": all but the value
 unfoldable pub fieldsAnswer : Config → List ℕ → Fields
-fieldsAnswer c msg = record { verdict = verdictOf (check c msg); header = decode c msg .header }
-
-unfoldable pub valueAnswer : Config → List ℕ → List ℕ
-valueAnswer c msg = decode c msg .value
-
--- The fields, and where the value lies in the message: from one place up to another, both 0 where there is a fault.
-unfoldable pub partsAnswer : Config → List ℕ → Parts
-partsAnswer c msg =
+fieldsAnswer c msg =
+    let x = receiveOf c msg in
+    let r = x .replica in
     record {
-      verdict = verdictOf (check c msg);
-      header = decode c msg .header;
-      from = cond (eqb (check c msg) 0) (scanOf c msg .from) 0;
-      end = cond (eqb (check c msg) 0) (scanOf c msg .from + scanOf c msg .length) 0;
+      verdict = x .verdict;
+      envelope = x .envelope;
+      tag = record { stamp = r .register .stamp; desk = r .register .desk };
+      ledger = r .ledger;
     }
+
+-- the value as that part of the message, "an empty part without a register or on any refusal"
+unfoldable pub valueAnswer : Config → List ℕ → List ℕ
+valueAnswer c msg = cond (eqb (check c msg) 0) (valuePart (scanOf c msg) msg) []
 
 -- ---- writing
 
@@ -62,21 +74,27 @@ partsAnswer c msg =
 unfoldable pub fits : ℕ → ℕ → ℕ → Bool
 fits room at n = leb (at + n) room
 
--- whether a write is accepted: the reader takes the bytes, and they fit
-unfoldable pub writes : Config → Header → List ℕ → ℕ → ℕ → Bool
-writes c h v room at = cond (eqb (check c (encode c h v)) 0) (fits room at (length (encode c h v))) false
-
--- the reader's number, then 13; else the place after the message
-unfoldable pub writeAnswer : Config → Header → List ℕ → ℕ → ℕ → Number
-writeAnswer c h v room at =
-    cond (eqb (check c (encode c h v)) 0)
-    (cond (fits room at (length (encode c h v))) (Number.Value (at + length (encode c h v))) (Number.Refused (refusal 13)))
-    (Number.Refused (refusal (check c (encode c h v))))
-
 -- the bytes e in the place of as many at the front of a buffer
 unfoldable pub over : List ℕ → List ℕ → List ℕ
 over e out = e ++ drop (length e) out
 
--- the buffer after a write
-unfoldable pub writeBuffer : Config → Header → List ℕ → List ℕ → ℕ → List ℕ
-writeBuffer c h v out at = cond (writes c h v (length out) at) (take at out ++ over (encode c h v) (drop at out)) out
+-- what a call that writes a message gives, and the buffer after it
+pub record Written : Type 0 where
+  pub answer : Number
+  pub out : List ℕ
+
+-- the message m is written from a place on, where it fits into the buffer; otherwise 13, and the buffer is as it was
+unfoldable pub place : List ℕ → List ℕ → ℕ → Written
+place m out at =
+    cond (fits (length out) at (length m)) (record { answer = Number.Value (at + length m); out = take at out ++ over m (drop at out) })
+    (record { answer = Number.Refused (refusal 13); out = out })
+
+-- Writing: the reader's number for the message, then 13; else the place after it.
+unfoldable pub writeOf : Config → Envelope → Replica → List ℕ → ℕ → Written
+writeOf c e r out at =
+    cond (eqb (check c (messageOf c e r)) 0) (place (messageOf c e r) out at)
+    (record { answer = Number.Refused (refusal (check c (messageOf c e r))); out = out })
+
+-- the bytes of a buffer from a place up to another
+abbrev pub between : List ℕ → ℕ → ℕ → List ℕ
+between out at next = take (next - at) (drop at out)

@@ -11,11 +11,13 @@ use Rattle.ledger.specs.declared.ledger.Ledger.{Ledger}
 use Rattle.ledger.specs.Checks.{totalFits, aboveFloor}
 use Rattle.ledger.specs.Tables.{table}
 use Rattle.format.specs.Bytes.{bit}
+use Rattle.replica.specs.Values.{mostValue}
 use Rattle.message.specs.declared.state.Cursor.{Cursor}
 use Rattle.message.specs.declared.state.HeadRead.{HeadRead}
 use Rattle.message.specs.declared.state.RegisterRead.{RegisterRead}
 use Rattle.message.specs.declared.state.SheetRead.{SheetRead}
-use Rattle.message.specs.declared.header.Header.{Header}
+use Rattle.message.specs.declared.envelope.Envelope.{Envelope}
+use Rattle.message.specs.declared.answer.Tag.{Tag}
 use Rattle.message.specs.Cursors.{start, readNumber, skip, require}
 
 -- ---- the map and bits 0 to 3
@@ -50,8 +52,9 @@ unfoldable pub registerOf : Config → List ℕ → ℕ → Cursor → RegisterR
 registerOf c msg s from =
     let stamp = readNumber msg s (stampBytes c) 1 (mostStamp c) from in
     let desk = readNumber msg s 2 1 65535 stamp in
-    let length = readNumber msg s 1 0 64 desk in
-    record { stamp = stamp .x; desk = desk .x; from = length .at; length = length .x; cursor = skip msg (length .x) length }
+    let length = readNumber msg s 1 0 mostValue desk in
+    let value = skip msg (length .x) length in
+    record { stamp = stamp .x; desk = desk .x; from = length .at; length = length .x; cursor = value }
 
 -- ---- bit 5: rows and cells
 
@@ -117,12 +120,14 @@ readNote msg s c = readNumber msg s 4 1 4294967295 c
 unfoldable pub endOf : Config → List ℕ → Ledger → Cursor → Cursor
 endOf c msg l note = require (aboveFloor c l) 5 (require (eqb (note .at) (length msg)) 2 note)
 
--- The number of the first fault, or 0, and what was found before it: the header, and where the value lies.
+-- The number of the first fault, or 0, and what was found before it: the envelope, the register's tag and where its value lies, and the ledger.
 pub record Scan : Type 0 where
   pub number : ℕ
-  pub header : Header
+  pub envelope : Envelope
+  pub tag : Tag
   pub from : ℕ
   pub length : ℕ
+  pub ledger : Ledger
 
 unfoldable pub scanOf : Config → List ℕ → Scan
 scanOf c msg =
@@ -132,16 +137,9 @@ scanOf c msg =
     let note = readNote msg (bit (h .map) 6) (s .cursor) in
     record {
       number = endOf c msg (s .ledger) note .number;
-      header =
-          record {
-            kind = h .kind;
-            server = h .server;
-            desk = h .desk;
-            round = h .round;
-            tag = record { stamp = r .stamp; desk = r .desk };
-            ledger = s .ledger;
-            note = note .x;
-          };
+      envelope = record { kind = h .kind; server = h .server; desk = h .desk; round = h .round; note = note .x };
+      tag = record { stamp = r .stamp; desk = r .desk };
       from = r .from;
       length = r .length;
+      ledger = s .ledger;
     }

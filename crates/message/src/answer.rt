@@ -1,17 +1,42 @@
 // Answers about messages.
-use super::header::Header;
+use super::envelope::Envelope;
+use config::Refusal;
 use config::Verdict;
+use ledger::Ledger;
+use replica::Replica;
+ghost use mathlib.Core.Path.{_≡_};
+ghost use Rattle.message.specs.Answers.{refusedOf};
 
-// The fields of a message, or its refusal beside a blank header.
-pub struct Fields {
+// What bytes say: the envelope and the replica, or the refusal beside a blank envelope and a fresh replica.
+pub struct Received {
     pub verdict: Verdict,
-    pub header: Header,
+    pub envelope: Envelope,
+    pub replica: Replica,
 }
 
-// The same, and where in the message its value lies: from one place up to another, both 0 beside a refusal.
-pub struct Parts {
+impl Received {
+    // A message that is refused says nothing.
+    pub fn refused(refusal: Refusal) -> Received
+        ensures { λ r. ⌜ r ≡ refusedOf refusal ⌝ }
+    {
+        Received {
+            verdict: Verdict::Refused(refusal),
+            envelope: Envelope::blank(),
+            replica: Replica::fresh(),
+        }
+    }
+}
+
+// A register's tag.
+pub struct Tag {
+    pub stamp: u32,
+    pub desk: u16,
+}
+
+// The same but for the register's value, which is a part of the message.
+pub struct Fields {
     pub verdict: Verdict,
-    pub header: Header,
-    pub from: usize,
-    pub end: usize,
+    pub envelope: Envelope,
+    pub tag: Tag,
+    pub ledger: Ledger,
 }

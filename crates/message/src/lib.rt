@@ -1,14 +1,16 @@
-// Messages: the header, what a reader is to find in bytes and a writer to make of a header (specs/), and that each undoes the other (proofs/).
-// The crates `reader` and `writer` have the functions.
+// Messages: the envelope, what a reader is to find in bytes and a writer to make of an envelope and a replica (specs/), and that each undoes the other
+// (proofs/). The crates `reader` and `writer` have the functions.
 mod answer;
-mod header;
+mod envelope;
 mod state;
 
 pub use answer::Fields;
-pub use answer::Parts;
-pub use header::Header;
-pub use header::Tag;
-pub use header::register_fits;
+pub use answer::Received;
+pub use answer::Tag;
+pub use envelope::Envelope;
+pub use envelope::REPLY;
+pub use envelope::REQUEST;
+pub use envelope::SHARE;
 pub use state::Cursor;
 pub use state::HeadRead;
 pub use state::RegisterRead;

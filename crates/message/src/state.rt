@@ -1,4 +1,4 @@
-// Where a reader stands, and what each of its parts found. Numbers are kept wide until the header is made.
+// Where a reader stands, and what each of its parts found. Numbers are kept wide until the envelope and the replica are made.
 use ledger::Ledger;
 
 // Once the number isn't 0, every later step leaves it and the place as they are.

@@ -4,10 +4,9 @@ use mathlib.Core.Path.{_≡_, sym, ap}
 use mathlib.Core.Bool.{true, false}
 use mathlib.Core.List.{List}
 use lib.ListN.{length, take, drop}
-use borrow.Author.Tests.{ne-eqb}
+use borrow.Author.Tests.{eq-eqb, ne-eqb}
 use Rattle.config.specs.Cluster.{validOf}
 use Rattle.config.specs.declared.cluster.Config.{Config}
-use Rattle.config.specs.declared.answer.Verdict.{Verdict}
 use Rattle.config.specs.declared.answer.Signed.{Signed}
 use Rattle.config.specs.declared.answer.Decision.{Decision}
 use Rattle.format.specs.Bytes.{bit}
@@ -16,11 +15,11 @@ use Rattle.ledger.specs.Weights.{weightAnswer, quorumAnswer}
 use Rattle.ledger.specs.Tables.{table}
 use Rattle.message.specs.Scans.{headOf, registerOf, scanOf}
 use Rattle.message.specs.declared.state.RegisterRead.{RegisterRead}
-use Rattle.message.specs.Headers.{blankHeader}
+use Rattle.message.specs.declared.answer.Received.{Received}
 use Rattle.config.specs.Refusals.{refusal}
-use Rattle.message.specs.Answers.{check, Decoded, decode, valueAnswer, partsAnswer, verdictOf}
+use Rattle.message.specs.Answers.{check, refusedOf, receiveOf, valueAnswer}
 use Rattle.message.proofs.Parts.{value-within}
-use Rattle.message.proofs.Rounds.{decoded}
+use Rattle.message.proofs.Rounds.{received}
 use Rattle.message.proofs.SheetBacks.{ledger-typed}
 use Rattle.reader.specs.Weighings.{weightIn, quorumIn}
 use Rattle.reader.specs.Sums.{Sums}
@@ -34,27 +33,15 @@ pub check-found : (c : Config) (msg : List ℕ) (k : ℕ) → validOf c ≡ true
 unfolding check
 check-found c msg k v e = simp v (sym e)
 
--- the ledger that a message's header has, where there was no fault
-pub ledger-found : (c : Config) (msg : List ℕ) → check c msg ≡ 0 → decode c msg .header .ledger ≡ scanOf c msg .header .ledger
-ledger-found c msg e = ap (λ (d : Decoded). d .header .ledger) (decoded c msg e)
+-- the ledger of a message, where there was no fault
+pub ledger-found : (c : Config) (msg : List ℕ) → check c msg ≡ 0 → receiveOf c msg .replica .ledger ≡ scanOf c msg .ledger
+ledger-found c msg e = ap (λ (x : Received). x .replica .ledger) (received c msg e)
 
--- ---- the fields and the place of the value, where the check gives a number, and where it gives none
+-- ---- what a message says, where the check gives a number
 
-pub parts-refused : (c : Config) (msg : List ℕ) (k : ℕ) → check c msg ≡ k → (k ≡ 0 → ⊥)
-    → record { verdict = Verdict.Refused (refusal k); header = blankHeader; from = 0; end = 0 } ≡ partsAnswer c msg
-unfolding partsAnswer decode verdictOf
-parts-refused c msg k e n = simp (e, ne-eqb k 0 n)
-
-pub parts-accepted : (c : Config) (msg : List ℕ) → check c msg ≡ 0
-    → record {
-      verdict = Verdict.Accepted;
-      header = scanOf c msg .header;
-      from = scanOf c msg .from;
-      end = scanOf c msg .from + scanOf c msg .length;
-    }
-    ≡ partsAnswer c msg
-unfolding partsAnswer decode verdictOf
-parts-accepted c msg e = simp e
+pub receive-number : (c : Config) (msg : List ℕ) (k : ℕ) → check c msg ≡ k → (k ≡ 0 → ⊥) → refusedOf (refusal k) ≡ receiveOf c msg
+unfolding receiveOf
+receive-number c msg k e n = simp (e, ne-eqb k 0 n)
 
 -- ---- the value, from the register
 
@@ -73,19 +60,19 @@ module _ (c : Config) (msg : List ℕ) (r : RegisterRead) (register : r ≡ regi
 
   pub register-value : check c msg ≡ 0 → take (r .length) (drop (r .from) msg) ≡ valueAnswer c msg
   unfolding valueAnswer
-  register-value e = rw (from-is, length-is) (sym (ap (λ (d : Decoded). d .value) (decoded c msg e)))
+  register-value e = rw (from-is, length-is) (simp (eq-eqb (check c msg) 0 e))
 
 -- ---- weights
 
 -- the sums of a message's ledger are small
-ledger-small : (c : Config) (msg : List ℕ) → Typed (scanOf c msg .header .ledger)
+ledger-small : (c : Config) (msg : List ℕ) → Typed (scanOf c msg .ledger)
 unfolding scanOf
 ledger-small c msg = ledger-typed c msg _ _
 
-pub received-small : (c : Config) (msg : List ℕ) {xs : List ℕ} → xs ≡ table 16 (receivedOf (scanOf c msg .header .ledger)) → Sums 68719476720 xs
+pub received-small : (c : Config) (msg : List ℕ) {xs : List ℕ} → xs ≡ table 16 (receivedOf (scanOf c msg .ledger)) → Sums 68719476720 xs
 received-small c msg e = rw e (received-sums _ (ledger-small c msg))
 
-pub given-small : (c : Config) (msg : List ℕ) {xs : List ℕ} → xs ≡ table 16 (givenOf (scanOf c msg .header .ledger)) → Sums 68719476720 xs
+pub given-small : (c : Config) (msg : List ℕ) {xs : List ℕ} → xs ≡ table 16 (givenOf (scanOf c msg .ledger)) → Sums 68719476720 xs
 given-small c msg e = rw e (given-sums _ (ledger-small c msg))
 
 -- an answer where the check gives a number, and where it gives none
@@ -94,7 +81,7 @@ pub weight-refused : (c : Config) (server : ℕ) (msg : List ℕ) (k : ℕ) → 
 unfolding weightIn
 weight-refused c server msg k e n = simp (e, ne-eqb k 0 n)
 
-pub weight-accepted : (c : Config) (server : ℕ) (msg : List ℕ) → check c msg ≡ 0 → weightAnswer c (scanOf c msg .header .ledger) server ≡ weightIn c server msg
+pub weight-accepted : (c : Config) (server : ℕ) (msg : List ℕ) → check c msg ≡ 0 → weightAnswer c (scanOf c msg .ledger) server ≡ weightIn c server msg
 unfolding weightIn
 weight-accepted c server msg e = simp (e, ledger-found c msg e)
 
@@ -102,6 +89,6 @@ pub quorum-refused : (c : Config) (map : ℕ) (msg : List ℕ) (k : ℕ) → che
 unfolding quorumIn
 quorum-refused c map msg k e n = simp (e, ne-eqb k 0 n)
 
-pub quorum-accepted : (c : Config) (map : ℕ) (msg : List ℕ) → check c msg ≡ 0 → quorumAnswer c (scanOf c msg .header .ledger) map ≡ quorumIn c map msg
+pub quorum-accepted : (c : Config) (map : ℕ) (msg : List ℕ) → check c msg ≡ 0 → quorumAnswer c (scanOf c msg .ledger) map ≡ quorumIn c map msg
 unfolding quorumIn
 quorum-accepted c map msg e = simp (e, ledger-found c msg e)

@@ -17,7 +17,7 @@ use Rattle.ledger.specs.Ledgers.{accountsOf}
 use Rattle.ledger.specs.Maps.{named, mapOf}
 use Rattle.ledger.specs.Weights.{quorumOf, quorumAnswer}
 use Rattle.ledger.proofs.Published.{quorum-majority, integrity}
-use Rattle.message.specs.Answers.{check, decode}
+use Rattle.message.specs.Answers.{check, receiveOf}
 use Rattle.message.proofs.Rounds.{check-told}
 use Rattle.message.proofs.Bounds.{passed-bounded, passed-above}
 use Rattle.reader.specs.Weighings.{quorumIn}
@@ -25,7 +25,7 @@ use Rattle.reader.specs.Weighings.{quorumIn}
 -- an answer that is no refusal is what the sheet decides, of a message that passes and a map of the cluster
 quorum-told : (c : Config) (map : ℕ) (msg : List ℕ) (b : Bool)
     → (quorumIn c map msg ≡ decide b)
-    ↔ ((check c msg ≡ 0) × (mapOf c map ≡ true) × (quorumOf c (decode c msg .header .ledger) map ≡ b))
+    ↔ ((check c msg ≡ 0) × (mapOf c map ≡ true) × (quorumOf c (receiveOf c msg .replica .ledger) map ≡ b))
 unfolding quorumIn quorumAnswer
 quorum-told c map msg b = (
   λ e.
@@ -37,13 +37,13 @@ quorum-told c map msg b = (
 
 -- the sheet decides by Definition 1
 sheet-majority : (c : Config) (map : ℕ) (msg : List ℕ) → check c msg ≡ 0
-    → (quorumOf c (decode c msg .header .ledger) map ≡ true) ↔ WeightedMajority (c .n) (accountsOf c (decode c msg .header .ledger)) (named map)
-sheet-majority c map msg e = quorum-majority c (decode c msg .header .ledger) map (check-told c msg e .0) (passed-bounded c msg e)
+    → (quorumOf c (receiveOf c msg .replica .ledger) map ≡ true) ↔ WeightedMajority (c .n) (accountsOf c (receiveOf c msg .replica .ledger)) (named map)
+sheet-majority c map msg e = quorum-majority c (receiveOf c msg .replica .ledger) map (check-told c msg e .0) (passed-bounded c msg e)
 
 -- Definition 1: the answer is yes of a set of more than half of the weight of all servers,
 pub quorum-yes : (c : Config) (map : ℕ) (msg : List ℕ)
     → (quorumIn c map msg ≡ Decision.Yes)
-    ↔ ((check c msg ≡ 0) × (mapOf c map ≡ true) × WeightedMajority (c .n) (accountsOf c (decode c msg .header .ledger)) (named map))
+    ↔ ((check c msg ≡ 0) × (mapOf c map ≡ true) × WeightedMajority (c .n) (accountsOf c (receiveOf c msg .replica .ledger)) (named map))
 quorum-yes c map msg = (
   λ e. let t = quorum-told c map msg true .0 e in (t .0, t .1, sheet-majority c map msg (t .0) .0 (t .2)),
   λ t. quorum-told c map msg true .1 (t .0, t .1, sheet-majority c map msg (t .0) .1 (t .2)),
@@ -52,12 +52,12 @@ quorum-yes c map msg = (
 -- and no of every other set of servers.
 pub quorum-no : (c : Config) (map : ℕ) (msg : List ℕ)
     → (quorumIn c map msg ≡ Decision.No)
-    ↔ ((check c msg ≡ 0) × (mapOf c map ≡ true) × (WeightedMajority (c .n) (accountsOf c (decode c msg .header .ledger)) (named map) → ⊥))
+    ↔ ((check c msg ≡ 0) × (mapOf c map ≡ true) × (WeightedMajority (c .n) (accountsOf c (receiveOf c msg .replica .ledger)) (named map) → ⊥))
 quorum-no c map msg = (
   λ e. let t = quorum-told c map msg false .0 e in (t .0, t .1, fails _ (sheet-majority c map msg (t .0)) .0 (t .2)),
   λ t. quorum-told c map msg false .1 (t .0, t .1, fails _ (sheet-majority c map msg (t .0)) .1 (t .2)),
 )
 
 -- Definition 5, RP-Integrity: every weight on the sheet is above W / (2(n − f)).
-pub sheet-integrity : (c : Config) (msg : List ℕ) → check c msg ≡ 0 → RpIntegrity (c .n) (c .f) (accountsOf c (decode c msg .header .ledger))
-sheet-integrity c msg e = integrity c (decode c msg .header .ledger) (passed-above c msg e)
+pub sheet-integrity : (c : Config) (msg : List ℕ) → check c msg ≡ 0 → RpIntegrity (c .n) (c .f) (accountsOf c (receiveOf c msg .replica .ledger))
+sheet-integrity c msg e = integrity c (receiveOf c msg .replica .ledger) (passed-above c msg e)

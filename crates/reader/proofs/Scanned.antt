@@ -26,11 +26,11 @@ module _ (c : Config) (msg : List ℕ) (h : HeadRead) (r : RegisterRead) (stands
     (has-received : received ≡ table 16 (receivedOf (sheetOf c msg stands (r .cursor) .ledger)))
     (has-given : given ≡ table 16 (givenOf (sheetOf c msg stands (r .cursor) .ledger)))
   where
-    pub received-is : received ≡ table 16 (receivedOf (scanOf c msg .header .ledger))
+    pub received-is : received ≡ table 16 (receivedOf (scanOf c msg .ledger))
     unfolding scanOf
     received-is = rw (has-received, sheet-stands, register, head)
 
-    pub given-is : given ≡ table 16 (givenOf (scanOf c msg .header .ledger))
+    pub given-is : given ≡ table 16 (givenOf (scanOf c msg .ledger))
     unfolding scanOf
     given-is = rw (has-given, sheet-stands, register, head)
 

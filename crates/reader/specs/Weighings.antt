@@ -9,12 +9,12 @@ use Rattle.config.specs.declared.answer.Signed.{Signed}
 use Rattle.config.specs.declared.answer.Decision.{Decision}
 use Rattle.ledger.specs.Weights.{weightAnswer, quorumAnswer}
 use Rattle.config.specs.Refusals.{refusal}
-use Rattle.message.specs.Answers.{check, decode}
+use Rattle.message.specs.Answers.{check, receiveOf}
 
 unfoldable pub weightIn : Config → ℕ → List ℕ → Signed
 weightIn c server msg =
-    cond (eqb (check c msg) 0) (weightAnswer c (decode c msg .header .ledger) server) (Signed.Refused (refusal (check c msg)))
+    cond (eqb (check c msg) 0) (weightAnswer c (receiveOf c msg .replica .ledger) server) (Signed.Refused (refusal (check c msg)))
 
 unfoldable pub quorumIn : Config → ℕ → List ℕ → Decision
 quorumIn c map msg =
-    cond (eqb (check c msg) 0) (quorumAnswer c (decode c msg .header .ledger) map) (Decision.Refused (refusal (check c msg)))
+    cond (eqb (check c msg) 0) (quorumAnswer c (receiveOf c msg .replica .ledger) map) (Decision.Refused (refusal (check c msg)))

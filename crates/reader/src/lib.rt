@@ -1,5 +1,5 @@
-// Reading messages (paper 01, "Message bytes"): the message check, the fields and the place of the value, the value as a part of the caller's own
-// message, and weights and quorums on a message's sheet.
+// Reading messages (paper 01, "Message bytes"): the message check, what a message says, its fields without the value, the value as a part of the caller's
+// own message, and weights and quorums on a message's sheet.
 mod cursor;
 mod head;
 mod read;
@@ -12,7 +12,7 @@ mod whole;
 
 pub use read::check;
 pub use read::fields;
-pub use read::parts;
 pub use read::quorum;
+pub use read::receive;
 pub use read::value;
 pub use read::weight;

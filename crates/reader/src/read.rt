@@ -3,7 +3,7 @@ use super::scan::fault;
 use super::scan::scan;
 use super::sums::is_quorum;
 use super::sums::weight_of;
-use super::whole::parts_in;
+use super::whole::received_in;
 use super::whole::register_in;
 use config::Config;
 use config::Decision;
@@ -11,10 +11,10 @@ use config::Refusal;
 use config::Signed;
 use config::Verdict;
 use message::Fields;
-use message::Header;
-use message::Parts;
+use message::Received;
+use message::Tag;
 ghost use mathlib.Core.Path.{_≡_};
-ghost use Rattle.message.specs.Answers.{checkAnswer, fieldsAnswer, valueAnswer, partsAnswer};
+ghost use Rattle.message.specs.Answers.{checkAnswer, receiveOf, fieldsAnswer, valueAnswer};
 ghost use Rattle.reader.specs.Weighings.{weightIn, quorumIn};
 
 // The message check: 1 for the cluster, then the first fault of the message.
@@ -31,39 +31,40 @@ pub fn check(config: Config, msg: &[u8]) -> Verdict
     Verdict::Accepted
 }
 
-// The fields of a message and where in it the value lies, or the refusal that `check` gives, beside a blank header and an empty part. They are taken
-// once the message has passed.
-pub fn parts(config: Config, msg: &[u8]) -> Parts
-    ensures { λ r. ⌜ r ≡ partsAnswer config (now (msg .entry)) ⌝ }
+// What a message says: its envelope and its replica, or the refusal that `check` gives beside a blank envelope and a fresh replica. They are taken once
+// the message has passed.
+pub fn receive(config: Config, msg: &[u8]) -> Received
+    ensures { λ r. ⌜ r ≡ receiveOf config (now (msg .entry)) ⌝ }
 {
     if !config.valid() {
-        return Parts {
-            verdict: Verdict::Refused(Refusal::BadHouse),
-            header: Header::blank(),
-            from: 0,
-            end: 0,
-        };
+        return Received::refused(Refusal::BadHouse);
     }
     let number = fault(config, msg);
     if number != 0 {
-        return Parts {
-            verdict: Verdict::Refused(Refusal::of(number)),
-            header: Header::blank(),
-            from: 0,
-            end: 0,
-        };
+        return Received::refused(Refusal::of(number));
     }
-    parts_in(config, msg)
+    received_in(config, msg)
 }
 
-// The same without the place of the value.
+// The same but for the value.
 pub fn fields(config: Config, msg: &[u8]) -> Fields
     ensures { λ r. ⌜ r ≡ fieldsAnswer config (now (msg .entry)) ⌝ }
 {
-    let read = parts(config, msg);
+    let read = receive(config, msg);
     let verdict = read.verdict;
-    let header = read.header;
-    Fields { verdict, header }
+    let envelope = read.envelope;
+    let replica = read.replica;
+    let register = replica.register;
+    let ledger = replica.ledger;
+    Fields {
+        verdict,
+        envelope,
+        tag: Tag {
+            stamp: register.stamp,
+            desk: register.desk,
+        },
+        ledger,
+    }
 }
 
 // The register's value, as a part of the message; empty without a register, and wherever `check` refuses.

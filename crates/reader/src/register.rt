@@ -5,13 +5,11 @@ use super::cursor::skip;
 use config::Config;
 use message::Cursor;
 use message::RegisterRead;
+use replica::MOST_VALUE;
 ghost use mathlib.Core.Path.{_≡_};
 ghost use Prim.Native.Nat.{_≤_};
 ghost use lib.ListN.{length};
 ghost use Rattle.message.specs.Scans.{registerOf};
-
-// The longest value.
-pub(crate) const MOST_VALUE: u64 = 64;
 
 pub(crate) fn read_register(config: Config, msg: &[u8], stands: u64, cursor: Cursor) -> RegisterRead
     requires { ⌜ cursor .at ≤ length (now msg) ⌝ }
@@ -21,12 +19,13 @@ pub(crate) fn read_register(config: Config, msg: &[u8], stands: u64, cursor: Cur
     let most = config.most_stamp();
     let stamp = read_number(msg, stands, width, 1, most, cursor);
     let desk = read_number(msg, stands, 2, 1, MOST_TWO, stamp);
-    let length = read_number(msg, stands, 1, 0, MOST_VALUE, desk);
+    let length = read_number(msg, stands, 1, 0, MOST_VALUE as u64, desk);
+    let value = skip(msg, length.x as usize, length);
     RegisterRead {
         stamp: stamp.x,
         desk: desk.x,
         from: length.at,
         length: length.x,
-        cursor: skip(msg, length.x as usize, length),
+        cursor: value,
     }
 }

@@ -41,7 +41,7 @@ pub(crate) fn finish(
 // The number of the first fault, or 0, with what each server received and gave into two lists of zeros.
 pub(crate) fn scan(config: Config, msg: &[u8], received: &mut [u64], given: &mut [u64]) -> u64
     requires { ⌜ (validOf config ≡ true) × (now received ≡ replicate 16 0) × (now given ≡ replicate 16 0) ⌝ }
-    ensures { λ r. ⌜ (r ≡ scanOf config (now (msg .entry)) .number) × (now (received .exit) ≡ table 16 (receivedOf (scanOf config (now (msg .entry)) .header .ledger))) × (now (given .exit) ≡ table 16 (givenOf (scanOf config (now (msg .entry)) .header .ledger))) ⌝ }
+    ensures { λ r. ⌜ (r ≡ scanOf config (now (msg .entry)) .number) × (now (received .exit) ≡ table 16 (receivedOf (scanOf config (now (msg .entry)) .ledger))) × (now (given .exit) ≡ table 16 (givenOf (scanOf config (now (msg .entry)) .ledger))) ⌝ }
 {
     let head = read_head(config, msg);
     let after_head = head.cursor;

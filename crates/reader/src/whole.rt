@@ -1,4 +1,4 @@
-// The parts of a whole message.
+// What a whole message says.
 use super::cursor::MOST_FOUR;
 use super::cursor::bit;
 use super::cursor::read_number;
@@ -8,16 +8,18 @@ use super::take::take_rows;
 use super::weigh::most_map;
 use config::Config;
 use config::Verdict;
-use message::Header;
-use message::Parts;
+use message::Envelope;
+use message::Received;
 use message::RegisterRead;
-use message::Tag;
+use replica::Register;
+use replica::Replica;
+use replica::Value;
 ghost use mathlib.Core.Path.{_≡_};
 ghost use mathlib.Core.Bool.{true};
 ghost use Rattle.config.specs.Cluster.{validOf};
 ghost use Rattle.format.specs.Bytes.{bit as bitOf};
 ghost use Rattle.message.specs.Scans.{headOf, registerOf, scanOf};
-ghost use Rattle.message.specs.Answers.{partsAnswer};
+ghost use Rattle.message.specs.Answers.{receiveOf};
 
 // The register of a message, and where its value lies.
 pub(crate) fn register_in(config: Config, msg: &[u8]) -> RegisterRead
@@ -29,10 +31,10 @@ pub(crate) fn register_in(config: Config, msg: &[u8]) -> RegisterRead
     read_register(config, msg, bit(head.map, 4), from)
 }
 
-// The header of a message that has passed, and where its value lies.
-pub(crate) fn parts_in(config: Config, msg: &[u8]) -> Parts
+// The envelope and the replica of a message that has passed, the value copied out of it.
+pub(crate) fn received_in(config: Config, msg: &[u8]) -> Received
     requires { ⌜ (validOf config ≡ true) × (scanOf config (now msg) .number ≡ 0) ⌝ }
-    ensures { λ r. ⌜ r ≡ partsAnswer config (now (msg .entry)) ⌝ }
+    ensures { λ r. ⌜ r ≡ receiveOf config (now (msg .entry)) ⌝ }
 {
     let head = read_head(config, msg);
     let after_head = head.cursor;
@@ -51,21 +53,23 @@ pub(crate) fn parts_in(config: Config, msg: &[u8]) -> Parts
     let ledger = sheet.ledger;
     let note = read_number(msg, bit(head.map, 6), 4, 1, MOST_FOUR, after_sheet);
     let from = register.from;
-    Parts {
+    let end = from + (register.length as usize);
+    Received {
         verdict: Verdict::Accepted,
-        header: Header {
+        envelope: Envelope {
             kind: head.kind as u8,
             server: head.server as u8,
             desk: head.desk as u16,
             round: head.round as u32,
-            tag: Tag {
-                stamp: register.stamp as u32,
-                desk: register.desk as u16,
-            },
-            ledger,
             note: note.x as u32,
         },
-        from,
-        end: from + (register.length as usize),
+        replica: Replica {
+            ledger,
+            register: Register {
+                stamp: register.stamp as u32,
+                desk: register.desk as u16,
+                value: Value::of(&msg[from..end]),
+            },
+        },
     }
 }

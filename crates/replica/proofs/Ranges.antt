@@ -15,7 +15,6 @@ use Rattle.replica.specs.Replicas.{Typed as TypedReplica}
 use Rattle.replica.proofs.value.Value as ValueStruct
 use Rattle.replica.proofs.register.Register as RegisterStruct
 use Rattle.replica.proofs.replica.Replica as ReplicaStruct
-use Rattle.replica.proofs.envelope.Envelope as EnvelopeStruct
 
 pub value-is-typed : (v : Value) (vs : List Val) → Is (rowOf ValueStruct.the-type) v vs → TypedValue v
 value-is-typed v vs is =

@@ -1,35 +1,91 @@
--- Registers: the start is one, the higher of two is one of them and below neither, and a register agrees with itself.
-use Prim.Native.Nat.{ℕ, _≤_, _<_}
+-- Registers: what their test says, the start is one that fits, the higher of two is one of them and below neither, and a register agrees with itself.
+use Prim.Native.Nat.{ℕ, _+_, _≤_, _<_}
 use native.Mathlib.Omega.{arith}
 use mathlib.Core.Path.{_≡_, refl}
 use mathlib.Core.Bool.{Bool, true, false, cond}
-use borrow.Author.Tests.{le-ltb, ltb-true, eq-eqb, ne-eqb, eqb-true}
-use lib.Dec.{eqb, ltb}
+use borrow.Author.Tests.{le-ltb, ltb-true, eq-eqb, ne-eqb, eqb-true, leb-true, le-leb}
+use lib.Dec.{eqb, ltb, leb}
 use lib.ListN.{getD}
-use Rattle.quorums.proofs.Tests.{both}
+use Rattle.quorums.proofs.Tests.{both, test-false}
 use Rattle.quorums.proofs.Sums.{each-all}
-use Rattle.message.specs.Faults.{registerFits}
-use Rattle.message.proofs.Registers.{fits-good}
-use Rattle.format.specs.Table.{registerMark}
+use Rattle.config.specs.Cluster.{stampBytes, mostStamp}
+use Rattle.config.specs.declared.cluster.Config.{Config}
 use Rattle.replica.specs.declared.value.Value.{Value}
 use Rattle.replica.specs.declared.register.Register.{Register}
-use Rattle.replica.specs.Values.{sameByte, sameAt, same}
-use Rattle.replica.specs.Registers.{startRegister, fits, below, higher, agree, Typed}
-use Rattle.replica.proofs.Values.{empty-typed}
+use Rattle.replica.specs.Values.{valueFits, sameByte, sameAt, same}
+use Rattle.replica.specs.Registers.{startRegister, isStart, registerFits, below, higher, agree, Typed}
+use Rattle.replica.proofs.Values.{empty-typed, short-fits}
 
 -- ---- the start
 
 pub start-typed : Typed startRegister
 start-typed = record { stamp-fits = omega arith; desk-fits = omega arith; value-typed = empty-typed }
 
-pub start-fits : fits startRegister ≡ true
-unfolding fits registerFits registerMark
-start-fits = refl
+pub start-fits : (c : Config) → registerFits c startRegister ≡ true
+unfolding registerFits isStart
+start-fits c = refl
 
--- a register that fits has a value of up to 64 bytes
-pub fits-short : (r : Register) → fits r ≡ true → r .value .length ≤ 64
-unfolding fits
-fits-short r e = fits-good (r .stamp) (r .desk) (r .value .length) e .short
+-- ---- the test
+
+-- the start has no stamp, no desk and no byte
+pub start-told : (r : Register) → isStart r ≡ true → (r .stamp ≡ 0) × (r .desk ≡ 0) × (r .value .length ≡ 0)
+unfolding isStart
+start-told r e =
+    let s = both (eqb (r .stamp) 0) _ e in
+    let d = both (eqb (r .desk) 0) _ (s .1) in
+    (eqb-true _ _ (s .0), eqb-true _ _ (d .0), eqb-true _ _ (d .1))
+
+pub start-shown : (r : Register) → r .stamp ≡ 0 → r .desk ≡ 0 → r .value .length ≡ 0 → isStart r ≡ true
+unfolding isStart
+start-shown r s d l = simp (eq-eqb _ _ s, eq-eqb _ _ d, eq-eqb _ _ l)
+
+-- it fits
+pub start-passes : (c : Config) (r : Register) → isStart r ≡ true → registerFits c r ≡ true
+unfolding registerFits
+start-passes c r e = simp e
+
+-- a register that has a stamp or a desk is not the start
+pub not-start : (r : Register) → (r .stamp + r .desk ≡ 0 → ⊥) → isStart r ≡ false
+not-start r ne = test-false (isStart r) (λ e. let t = start-told r e in ne (omega (arith, t .0, t .1)))
+
+-- What a register that fits has, unless it is the start: a tag, whose stamp the cluster has, and a value that fits.
+pub record Tagged (c : Config) (r : Register) : Type 0 where
+  pub stamp-stands : 1 ≤ r .stamp
+  pub stamp-most : r .stamp ≤ mostStamp c
+  pub desk-stands : 1 ≤ r .desk
+  pub value-fits : valueFits (r .value) ≡ true
+
+pub fits-tagged : (c : Config) (r : Register) → registerFits c r ≡ true → isStart r ≡ false → Tagged c r
+unfolding registerFits
+fits-tagged c r e n =
+    let s = both (leb 1 (r .stamp)) _ (rw n at e) in
+    let m = both (leb (r .stamp) (mostStamp c)) _ (s .1) in
+    let d = both (leb 1 (r .desk)) _ (m .1) in
+    record { stamp-stands = leb-true _ _ (s .0); stamp-most = leb-true _ _ (m .0); desk-stands = leb-true _ _ (d .0); value-fits = d .1 }
+
+pub tagged-fits : (c : Config) (r : Register) → Tagged c r → registerFits c r ≡ true
+unfolding registerFits
+tagged-fits c r t =
+    simp (
+      not-start r (λ z. omega (arith, t .stamp-stands)),
+      le-leb 1 (r .stamp) (t .stamp-stands),
+      le-leb (r .stamp) (mostStamp c) (t .stamp-most),
+      le-leb 1 (r .desk) (t .desk-stands),
+      t .value-fits,
+    )
+
+-- every stamp that a register can have is one of the cluster's
+pub typed-stamp : (c : Config) (r : Register) → Typed r → r .stamp ≤ mostStamp c
+unfolding mostStamp stampBytes
+typed-stamp c r t = t .stamp-fits
+
+-- a register that fits has a value that does
+pub fits-value : (c : Config) (r : Register) → registerFits c r ≡ true → valueFits (r .value) ≡ true
+fits-value c r e = by-start (isStart r) refl
+  where
+    by-start : (b : Bool) → isStart r ≡ b → valueFits (r .value) ≡ true
+    by-start true s = short-fits (r .value) (omega (arith, start-told r s .2))
+    by-start false s = fits-tagged c r e s .value-fits
 
 -- ---- the order of tags
 

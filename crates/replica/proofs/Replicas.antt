@@ -17,7 +17,7 @@ use Rattle.ledger.proofs.Kept.{joined-typed, joined-bounded}
 use Rattle.ledger.proofs.Unions.{joined-cell, joined-left, joined-right, joined-comm, joins-comm, later-grows}
 use Rattle.ledger.proofs.Compared.{lacks-nothing}
 use Rattle.replica.specs.declared.replica.Replica.{Replica}
-use Rattle.replica.specs.Registers.{fits as fitsRegister, below, agree, Typed as TypedRegister}
+use Rattle.replica.specs.Registers.{registerFits, below, agree, Typed as TypedRegister}
 use Rattle.replica.specs.Replicas.{freshReplica, fits, joinable, join, Typed}
 use Rattle.replica.proofs.Registers.{start-typed, start-fits, higher-either, higher-left, higher-right}
 
@@ -27,7 +27,7 @@ pub record Fits (c : Config) (r : Replica) : Type 0 where
   pub valid : validOf c ≡ true
   pub ledger-bounded : bounded c (r .ledger) ≡ true
   pub ledger-above : aboveFloor c (r .ledger) ≡ true
-  pub register-fits : fitsRegister (r .register) ≡ true
+  pub register-fits : registerFits c (r .register) ≡ true
 
 pub fits-told : (c : Config) (r : Replica) → fits c r ≡ true → Fits c r
 unfolding fits
@@ -47,7 +47,7 @@ fresh-typed = record { ledger-typed = fresh.fresh-typed; register-typed = start-
 pub fresh-fits : (c : Config) → validOf c ≡ true → fits c freshReplica ≡ true
 fresh-fits c v =
     told-fits c freshReplica
-    (record { valid = v; ledger-bounded = fresh.fresh-bounded c; ledger-above = fresh.fresh-above c v; register-fits = start-fits })
+    (record { valid = v; ledger-bounded = fresh.fresh-bounded c; ledger-above = fresh.fresh-above c v; register-fits = start-fits c })
 
 -- ---- two replicas that join
 
@@ -86,7 +86,7 @@ join-fits c a b p q e =
       valid = s .valid;
       ledger-bounded = joined-bounded c (a .ledger) (b .ledger) (s .ledger-bounded) (t .ledger-bounded);
       ledger-above = j .above;
-      register-fits = higher-either (λ r. fitsRegister r ≡ true) (a .register) (b .register) (s .register-fits) (t .register-fits);
+      register-fits = higher-either (λ r. registerFits c r ≡ true) (a .register) (b .register) (s .register-fits) (t .register-fits);
     })
 
 -- ---- what a join adds

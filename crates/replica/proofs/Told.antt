@@ -14,7 +14,7 @@ use Rattle.ledger.specs.Joins.{joins, joined, mergeAnswer}
 use Rattle.ledger.proofs.Checks.{accepted-not-refused}
 use Rattle.replica.specs.declared.replica.Replica.{Replica}
 use Rattle.replica.specs.declared.replica.Joined.{Joined}
-use Rattle.replica.specs.Registers.{fits as fitsRegister}
+use Rattle.replica.specs.Registers.{registerFits}
 use Rattle.replica.specs.Replicas.{fits, accepted as together, refused as apart}
 
 -- what `check` answers
@@ -22,11 +22,11 @@ abbrev checked : Bool → Bool → Bool → Verdict
 checked v b f = cond v (cond b (cond f Verdict.Accepted (Verdict.Refused (refusal 5))) (Verdict.Refused (refusal 4))) (Verdict.Refused (refusal 1))
 
 -- a replica whose ledger passes the check fits where its register does
-pub passed-fits : (c : Config) (r : Replica) → checkAnswer c (r .ledger) ≡ Verdict.Accepted → fitsRegister (r .register) ≡ fits c r
+pub passed-fits : (c : Config) (r : Replica) → checkAnswer c (r .ledger) ≡ Verdict.Accepted → registerFits c (r .register) ≡ fits c r
 unfolding fits checkAnswer
 passed-fits c r e = by-tests (validOf c) (bounded c (r .ledger)) (aboveFloor c (r .ledger)) e
   where
-    by-tests : (v b f : Bool) → checked v b f ≡ Verdict.Accepted → fitsRegister (r .register) ≡ cond v (cond b (cond f (fitsRegister (r .register)) false) false) false
+    by-tests : (v b f : Bool) → checked v b f ≡ Verdict.Accepted → registerFits c (r .register) ≡ cond v (cond b (cond f (registerFits c (r .register)) false) false) false
     by-tests true true true d = refl
     by-tests true true false d = accepted-not-refused _ (sym d)
     by-tests true false f d = accepted-not-refused _ (sym d)
@@ -37,7 +37,7 @@ pub refused-fits : (c : Config) (r : Replica) (k : Refusal) → checkAnswer c (r
 unfolding fits checkAnswer
 refused-fits c r k e = by-tests (validOf c) (bounded c (r .ledger)) (aboveFloor c (r .ledger)) e
   where
-    by-tests : (v b f : Bool) → checked v b f ≡ Verdict.Refused k → false ≡ cond v (cond b (cond f (fitsRegister (r .register)) false) false) false
+    by-tests : (v b f : Bool) → checked v b f ≡ Verdict.Refused k → false ≡ cond v (cond b (cond f (registerFits c (r .register)) false) false) false
     by-tests true true true d = accepted-not-refused k d
     by-tests true true false d = refl
     by-tests true false f d = refl

@@ -1,5 +1,4 @@
--- Definitions, in reading order: values, registers, replicas and their join, and the messages that carry a replica.
+-- Definitions, in reading order: values, registers, and replicas and their join.
 pub mod Values
 pub mod Registers
 pub mod Replicas
-pub mod Envelopes

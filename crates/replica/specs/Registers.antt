@@ -1,18 +1,26 @@
 -- Registers (paper 01, "Sheets"): a tag (stamp, desk), compared stamp first, and a value.
 use Prim.Native.Nat.{_≤_}
 use mathlib.Core.Bool.{Bool, true, false, cond}
-use lib.Dec.{eqb, ltb}
-use Rattle.message.specs.Faults.{registerFits}
+use lib.Dec.{eqb, ltb, leb}
+use Rattle.config.specs.Cluster.{mostStamp}
+use Rattle.config.specs.declared.cluster.Config.{Config}
 use Rattle.replica.specs.declared.register.Register.{Register}
-use Rattle.replica.specs.Values.{emptyValue, same, trimmed as trimmedValue, Typed as TypedValue}
+use Rattle.replica.specs.Values.{emptyValue, valueFits, same, trimmed as trimmedValue, Typed as TypedValue}
 
 -- the start: tag (0, 0), value empty
 abbrev pub startRegister : Register
 startRegister = record { stamp = 0; desk = 0; value = emptyValue }
 
--- whether a register is the start, or has a stamp, a desk and a value of up to 64 bytes
-unfoldable pub fits : Register → Bool
-fits r = registerFits (r .stamp) (r .desk) (r .value .length)
+-- whether a register is the start, whatever lies past its value's bytes
+unfoldable pub isStart : Register → Bool
+isStart r = cond (eqb (r .stamp) 0) (cond (eqb (r .desk) 0) (eqb (r .value .length) 0) false) false
+
+-- Whether a register may be held, written and sent (paper 01, "Message bytes", bit 4: "stamp 4, desk 2, both from 1, length 1, value; absent exactly at
+-- the start"): the one test of a register, for records and messages alike.
+unfoldable pub registerFits : Config → Register → Bool
+registerFits c r =
+    cond (isStart r) true
+    (cond (leb 1 (r .stamp)) (cond (leb (r .stamp) (mostStamp c)) (cond (leb 1 (r .desk)) (valueFits (r .value)) false) false) false)
 
 -- whether the tag of a is below that of b
 unfoldable pub below : Register → Register → Bool

@@ -10,7 +10,7 @@ use Rattle.ledger.specs.Checks.{bounded, aboveFloor}
 use Rattle.ledger.specs.Joins.{joins, joined}
 use Rattle.replica.specs.declared.replica.Replica.{Replica}
 use Rattle.replica.specs.declared.replica.Joined.{Joined}
-use Rattle.replica.specs.Registers.{startRegister, fits as fitsRegister, higher, agree, Typed as TypedRegister}
+use Rattle.replica.specs.Registers.{startRegister, registerFits, higher, agree, Typed as TypedRegister}
 
 -- no transfer, and the start
 abbrev pub freshReplica : Replica
@@ -18,7 +18,7 @@ freshReplica = record { ledger = freshLedger; register = startRegister }
 
 -- The part of the record test (paper 01, "Numbers handed out", 1) that is about what a party holds: the field ranges, and no light sheet.
 unfoldable pub fits : Config → Replica → Bool
-fits c r = cond (validOf c) (cond (bounded c (r .ledger)) (cond (aboveFloor c (r .ledger)) (fitsRegister (r .register)) false) false) false
+fits c r = cond (validOf c) (cond (bounded c (r .ledger)) (cond (aboveFloor c (r .ledger)) (registerFits c (r .register)) false) false) false
 
 -- whether two replicas join: equal tags have equal values, the sheets join, and the joined sheet is not light
 unfoldable pub joinable : Config → Replica → Replica → Bool

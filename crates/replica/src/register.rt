@@ -1,8 +1,8 @@
 // A register: a tag and a value (paper 01, "Sheets").
 use super::value::Value;
-use message::register_fits;
+use config::Config;
 ghost use mathlib.Core.Path.{_≡_};
-ghost use Rattle.replica.specs.Registers.{startRegister, fits as fitsOf, below as belowOf, higher as higherOf, agree as agreeOf, trimmed as trimmedOf};
+ghost use Rattle.replica.specs.Registers.{startRegister, registerFits, below as belowOf, higher as higherOf, agree as agreeOf, trimmed as trimmedOf};
 
 // The tag is (stamp, desk), compared stamp first.
 #[repr(C)]
@@ -24,12 +24,24 @@ impl Register {
         }
     }
 
-    // Whether this is the start, or has a stamp, a desk and a value of up to 64 bytes.
-    pub fn fits(self) -> bool
-        ensures { λ r. ⌜ r ≡ fitsOf self ⌝ }
+    // Whether this register may be held, written and sent: it is the start, or has a stamp of the cluster's, a desk and a value that fits.
+    pub fn fits(self, config: Config) -> bool
+        ensures { λ r. ⌜ r ≡ registerFits config self ⌝ }
     {
+        if self.stamp == 0 {
+            if self.desk == 0 {
+                return self.value.length == 0;
+            }
+            return false;
+        }
+        if config.most_stamp() < self.stamp as u64 {
+            return false;
+        }
+        if self.desk == 0 {
+            return false;
+        }
         let value = self.value;
-        register_fits(self.stamp, self.desk, value.length as usize)
+        value.fits()
     }
 
     // Whether the tag is below another's.

@@ -39,7 +39,7 @@ impl Replica {
         let Verdict::Accepted = ledger.check(config) else {
             return false;
         };
-        register.fits()
+        register.fits(config)
     }
 
     // Both ledgers together, and the register with the higher tag: 1 for the cluster; 6, and this replica as it was, where rows do not agree, where

@@ -1,7 +1,10 @@
 // The value of a register: up to 64 bytes.
 ghost use mathlib.Core.Path.{_≡_};
 ghost use Prim.Native.Nat.{_≤_, min};
-ghost use Rattle.replica.specs.Values.{valueOf, emptyValue, trimmed as trimmedOf, sameByte, same as sameOf};
+ghost use Rattle.replica.specs.Values.{valueFits, valueOf, emptyValue, trimmed as trimmedOf, sameByte, same as sameOf};
+
+// The most bytes that a value has.
+pub const MOST_VALUE: u16 = 64;
 
 // The first `length` of the bytes. Those after them mean nothing; what a call stores has zeros there.
 #[repr(C)]
@@ -21,7 +24,14 @@ impl Value {
         }
     }
 
-    // The value with the bytes of a slice, or with its first 64.
+    // Whether this value may be held, written and sent: it has at most 64 bytes.
+    pub fn fits(self) -> bool
+        ensures { λ r. ⌜ r ≡ valueFits self ⌝ }
+    {
+        self.length <= MOST_VALUE
+    }
+
+    // The value with the bytes of a slice. Of a longer slice it has the first 64, and a length of 65, which doesn't fit.
     pub fn of(part: &[u8]) -> Value
         ensures { λ r. ⌜ r ≡ valueOf (now (part .entry)) ⌝ }
     {
@@ -33,7 +43,7 @@ impl Value {
             k += 1;
         }
         Value {
-            length: end as u16,
+            length: told(part.len()),
             bytes,
         }
     }
@@ -44,7 +54,12 @@ impl Value {
     {
         let bytes = self.bytes;
         let end = short(self.length as usize);
-        Value::of(&bytes[..end])
+        let kept = Value::of(&bytes[..end]);
+        let bytes = kept.bytes;
+        Value {
+            length: self.length,
+            bytes,
+        }
     }
 
     // Whether two values have the same bytes.
@@ -75,8 +90,18 @@ fn same_byte(k: usize, length: u16, x: u8, y: u8) -> bool
     x == y
 }
 
+// The length that a value of so many bytes has: 65 where they are too many.
+fn told(length: usize) -> u16
+    ensures { λ r. ⌜ r ≡ min length 65 ⌝ }
+{
+    if 64 < length {
+        return MOST_VALUE + 1;
+    }
+    length as u16
+}
+
 // A length, or 64 where it is more.
-pub(crate) fn short(length: usize) -> usize
+fn short(length: usize) -> usize
     ensures { λ r. ⌜ (r ≡ min length 64) × (r ≤ 64) ⌝ }
 {
     if 64 < length {

@@ -17,7 +17,7 @@ use Rattle.ledger.specs.declared.ledger.Ledger.{Ledger}
 use Rattle.ledger.specs.Ledgers.{countOf}
 use Rattle.ledger.specs.Maps.{named}
 use Rattle.ledger.specs.Weights.{weightOf, allOf, quorumOf}
-use Rattle.replica.specs.Envelopes.{receiveOf}
+use Rattle.message.specs.Answers.{receiveOf}
 use Rattle.machine.specs.Sets.{Transfers, accounts, weightOf as plainWeight, quorumOf as plainQuorum}
 use Rattle.machine.specs.Parties.{Register, below, Message, Task, read, write, Result}
 use Rattle.machine.specs.Runs.{nth, done, told, step, at, answerAt, deskAt}

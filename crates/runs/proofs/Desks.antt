@@ -16,9 +16,10 @@ use Rattle.ledger.specs.Maps.{named, mapOf}
 use Rattle.ledger.proofs.Maps.{below-named}
 use Rattle.message.specs.Cursors.{within}
 use Rattle.replica.specs.Values.{valueOf}
-use Rattle.replica.specs.Registers.{trimmed, fits as fitsRegister}
-use Rattle.replica.specs.Envelopes.{request, messageOf, Written, place}
-use Rattle.replica.proofs.Values.{value-short}
+use Rattle.replica.specs.Registers.{trimmed, registerFits}
+use Rattle.message.specs.Envelopes.{request, messageOf}
+use Rattle.message.specs.Answers.{Written, place}
+use Rattle.replica.proofs.Values.{value-fits, empty-fits}
 use Rattle.replica.proofs.Registers.{start-fits}
 use Rattle.desk.specs.declared.record.Desk.{Desk}
 use Rattle.desk.specs.Operations.{running as runningMode, ended as endedMode, reading, writing, phaseLawful, fits as fitsOperation}
@@ -74,8 +75,8 @@ unfolding phaseLawful within
 phase-lawful first = refl
 phase-lawful (second g) = refl
 
-chosen-fits : (c : Config) (p : Phase) → ((g : Register) → p ≡ second g → RegisterRange c g) → fitsRegister (chosenFor p) ≡ true
-chosen-fits c first e = start-fits
+chosen-fits : (c : Config) (p : Phase) → ((g : Register) → p ≡ second g → RegisterRange c g) → registerFits c (chosenFor p) ≡ true
+chosen-fits c first e = start-fits c
 chosen-fits c (second g) e = register-fits c g (e g refl)
 
 -- its test passes, whatever the desk does
@@ -92,7 +93,7 @@ operation-fits c valid sent d round (running o) w chosen result =
       phase-in = phase-lawful (o .phase);
       answered-in = map-inside c valid (o .heard) (λ m i. w .heard m i .1);
       restarts-in = w .restarts;
-      value-short = value-short (taskValue (o .task));
+      value-fits = value-fits (taskValue (o .task)) ∙ le-leb (length (taskValue (o .task))) mostValue (w .short);
       chosen-fits = chosen-fits c (o .phase) (λ g e. chosen o g refl e);
     })
 operation-fits c valid sent d round (ended y) w chosen result =
@@ -102,7 +103,7 @@ operation-fits c valid sent d round (ended y) w chosen result =
       phase-in = refl;
       answered-in = none-answered c valid;
       restarts-in = w .restarts;
-      value-short = omega arith;
+      value-fits = empty-fits;
       chosen-fits = register-fits c (y .register) (result y refl);
     })
 
@@ -158,9 +159,9 @@ module _ (c : Config) (valid : validOf c ≡ true) (sent : List Message) (d : �
   begin-for t note =
       ap deskCalled (kind-of t note)
       ∙ ⊎-elim (λ (l : length (taskValue t) ≤ mostValue).
-      rw (desk-fits, le-leb (length (taskValue t)) mostValue l, le-ltb mostValue (length (taskValue t)) l) (start-for t note (x .activity)))
+      rw (desk-fits, value-fits (taskValue t) ∙ le-leb (length (taskValue t)) mostValue l, le-ltb mostValue (length (taskValue t)) l) (start-for t note (x .activity)))
       (λ (l : mostValue < length (taskValue t)).
-      rw (desk-fits, lt-leb (length (taskValue t)) mostValue l, lt-ltb mostValue (length (taskValue t)) l) refl)
+      rw (desk-fits, value-fits (taskValue t) ∙ lt-leb (length (taskValue t)) mostValue l, lt-ltb mostValue (length (taskValue t)) l) refl)
       (le-or-lt (length (taskValue t)) mostValue)
 
   -- a request that is written

@@ -12,7 +12,7 @@ use Rattle.config.specs.Refusals.{refusal}
 use Rattle.ledger.specs.Joins.{lacks}
 use Rattle.replica.specs.declared.replica.Replica.{Replica as Pair}
 use Rattle.replica.specs.Replicas.{join}
-use Rattle.replica.specs.Envelopes.{reply as replyNumber}
+use Rattle.message.specs.Envelopes.{reply as replyNumber}
 use Rattle.desk.specs.declared.record.Desk.{Desk}
 use Rattle.desk.specs.declared.record.Heard.{Heard}
 use Rattle.desk.specs.Operations.{running as runningMode}

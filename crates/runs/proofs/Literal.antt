@@ -15,7 +15,7 @@ use Rattle.config.specs.declared.answer.Verdict.{Verdict}
 use Rattle.ledger.specs.declared.ledger.Ledger.{Ledger}
 use Rattle.ledger.specs.Maps.{named}
 use Rattle.ledger.specs.Weights.{weightOf, allOf, quorumOf}
-use Rattle.replica.specs.Envelopes.{receiveOf}
+use Rattle.message.specs.Answers.{receiveOf}
 use Rattle.machine.specs.Parties.{read, start, Result}
 use Rattle.machine.specs.Runs.{Answer, done, wrote, told, nth, at, answersOf}
 use Rattle.machine.specs.Views.{View, Ends, restartsMade, gain}

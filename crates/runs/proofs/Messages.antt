@@ -18,17 +18,16 @@ use Rattle.ledger.specs.Checks.{aboveFloor}
 use Rattle.format.specs.Table.{Fields, encodeFields}
 use Rattle.format.proofs.Same.{encode-same}
 use Rattle.format.proofs.Sizes.{fields-length}
-use Rattle.message.specs.Headers.{encode, fieldsOf as headerFields}
+use Rattle.message.specs.Envelopes.{fieldsOf as programFields, messageOf, Typed as TypedEnvelope}
 use Rattle.message.specs.Cursors.{within}
-use Rattle.message.specs.Faults.{kindFits}
-use Rattle.message.specs.Answers.{fits as room}
+use Rattle.message.specs.Faults.{kindFits, lawful}
+use Rattle.message.specs.Answers.{fits as room, place, between, receiveOf}
 use Rattle.replica.specs.declared.replica.Replica.{Replica as Kept}
-use Rattle.replica.specs.declared.envelope.Received.{Received}
+use Rattle.message.specs.declared.answer.Received.{Received}
 use Rattle.replica.specs.Replicas.{fits, joinable, join, Typed}
-use Rattle.replica.specs.Envelopes.{headerOf, lawful, messageOf, place, between, receiveOf, Typed as TypedEnvelope}
 use Rattle.replica.proofs.Replicas.{told-fits, told-joinable}
-use Rattle.replica.proofs.Envelopes.{told-lawful, received-back}
-use Rattle.replica.proofs.Placed.{place-room, placed-message}
+use Rattle.message.proofs.Envelopes.{told-lawful, received-back}
+use Rattle.message.proofs.Placed.{place-room, placed-message}
 use Rattle.machine.specs.Sets.{union}
 use Rattle.machine.specs.Parties.{Replica, join as plainJoin, Kind, request, reply, share, kindNumber, Message, fieldsOf, bytesOf}
 use Rattle.machine.specs.Runs.{wrote}
@@ -85,11 +84,27 @@ joinable-for c valid x y j =
 
 -- those that the program writes are those of the byte table
 pub message-for : (c : Config) (m : Message) → RegisterRange c (m .replica .register) → messageOf c (envelopeFor m) (replicaFor (m .replica)) ≡ bytesOf c m
-unfolding messageOf encode bytesOf
+unfolding messageOf bytesOf
 message-for c m w =
-    let x : Fields = headerFields (headerOf (envelopeFor m) (replicaFor (m .replica))) (m .replica .register .value) in
-    ap (λ v. encodeFields c (headerFields (headerOf (envelopeFor m) (replicaFor (m .replica))) v)) (value-back c (m .replica .register) w)
-    ∙ encode-same c x (fieldsOf m .count) (fieldsOf m .cell) (sheet-for (m .replica .set))
+    ap (λ v. encodeFields c (valued v)) (value-back c (m .replica .register) w)
+    ∙ encode-same c (valued (m .replica .register .value)) (fieldsOf m .count) (fieldsOf m .cell) (sheet-for (m .replica .set))
+  where
+    -- the program's fields, with the value v
+    valued : List ℕ → Fields
+    valued v =
+        let x = programFields (envelopeFor m) (replicaFor (m .replica)) in
+        record {
+          kind = x .kind;
+          server = x .server;
+          desk = x .desk;
+          round = x .round;
+          stamp = x .stamp;
+          tag-desk = x .tag-desk;
+          value = v;
+          count = x .count;
+          cell = x .cell;
+          note = x .note;
+        }
 
 -- no message is empty
 pub message-some : (c : Config) (m : Message) → 1 ≤ length (bytesOf c m)

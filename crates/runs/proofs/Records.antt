@@ -10,7 +10,7 @@ use Rattle.ledger.specs.Tables.{table}
 use Rattle.ledger.specs.declared.ledger.Ledger.{Ledger}
 use Rattle.replica.specs.declared.register.Register.{Register}
 use Rattle.replica.specs.declared.replica.Replica.{Replica}
-use Rattle.replica.specs.declared.envelope.Envelope.{Envelope}
+use Rattle.message.specs.declared.envelope.Envelope.{Envelope}
 use Rattle.replica.specs.Values.{valueOf, emptyValue}
 use Rattle.replica.specs.Registers.{startRegister}
 use Rattle.server.specs.declared.record.Server.{Server}

@@ -4,16 +4,16 @@ use native.Mathlib.Omega.{arith}
 use mathlib.Core.Path.{_≡_, refl, sym, ap, _∙_}
 use mathlib.Core.Logic.{⊎-elim}
 use mathlib.Core.Bool.{Bool, true, false, cond}
-use borrow.Author.Tests.{eqb-true}
+use borrow.Author.Tests.{eqb-true, le-leb}
 use lib.Dec.{eqb}
+use lib.ListN.{length}
 use Rattle.config.specs.Cluster.{mostStamp}
 use Rattle.config.specs.declared.cluster.Config.{Config}
-use Rattle.message.proofs.Registers.{good-fits}
 use Rattle.replica.specs.declared.register.Register.{Register as Kept}
 use Rattle.replica.specs.Values.{bytesOf, valueOf, same}
-use Rattle.replica.specs.Registers.{startRegister, fits, below, higher, agree, trimmed, Typed}
-use Rattle.replica.proofs.Values.{bytes-of-value, value-of-none, value-short, value-typed, trimmed-value}
-use Rattle.replica.proofs.Registers.{start-fits, agree-self, agree-told}
+use Rattle.replica.specs.Registers.{startRegister, registerFits, below, higher, agree, trimmed, Typed}
+use Rattle.replica.proofs.Values.{bytes-of-value, value-of-none, value-fits, value-typed, trimmed-value}
+use Rattle.replica.proofs.Registers.{start-fits, tagged-fits, agree-self, agree-told}
 use Rattle.machine.specs.Parties.{Register, start, below as plainBelow, higher as plainHigher}
 use Rattle.machine.specs.Views.{SameTag}
 use Rattle.machine.proofs.Moves.{Seated}
@@ -64,12 +64,16 @@ module _ (c : Config) (g : Register) (w : RegisterRange c g) where
   pub trimmed-for : trimmed (registerFor g) ≡ registerFor g
   trimmed-for = ap {B = Kept} (λ v. record { stamp = g .stamp; desk = g .desk; value = v }) (trimmed-value (g .value) (w .short))
 
-  pub register-fits : fits (registerFor g) ≡ true
-  unfolding fits
+  pub register-fits : registerFits c (registerFor g) ≡ true
   register-fits =
-      ⊎-elim (λ (e : g ≡ start). ap (λ x. fits (registerFor x)) e ∙ ap fits start-for ∙ start-fits)
-      (λ (t : (1 ≤ g .stamp) × (g .stamp ≤ mostStamp c) × Seated (g .desk)). good-fits (g .stamp) (g .desk) (valueOf (g .value) .length)
-      (record { stamp-stands = λ m. t .0; desk-stands = λ m. t .2 .some; short = value-short (g .value) }))
+      ⊎-elim (λ (e : g ≡ start). ap (λ x. registerFits c (registerFor x)) e ∙ ap (registerFits c) start-for ∙ start-fits c)
+      (λ (t : (1 ≤ g .stamp) × (g .stamp ≤ mostStamp c) × Seated (g .desk)).
+      tagged-fits c (registerFor g) (record {
+        stamp-stands = t .0;
+        stamp-most = t .1;
+        desk-stands = t .2 .some;
+        value-fits = value-fits (g .value) ∙ le-leb (length (g .value)) 64 (w .short);
+      }))
       (w .tag)
 
   pub register-typed : Typed (registerFor g)

@@ -10,7 +10,7 @@ use Rattle.config.specs.declared.cluster.Config.{Config}
 use Rattle.config.specs.declared.answer.Verdict.{Verdict}
 use Rattle.ledger.specs.declared.ledger.Ledger.{Ledger}
 use Rattle.ledger.specs.Maps.{named}
-use Rattle.replica.specs.Envelopes.{receiveOf}
+use Rattle.message.specs.Answers.{receiveOf}
 use Rattle.machine.specs.Sets.{Transfers}
 use Rattle.machine.specs.Parties.{Message, bytesOf}
 use Rattle.machine.specs.Runs.{at, nth, when}

@@ -12,7 +12,7 @@ use Rattle.config.specs.declared.answer.Number.{Number}
 use Rattle.config.specs.declared.answer.Number.the-variants.{Value as NumberValue, Refused as NumberRefused}
 use Rattle.replica.specs.declared.register.Register.{Register}
 use Rattle.replica.specs.Values.{bytesOf}
-use Rattle.replica.specs.Envelopes.{Written, between}
+use Rattle.message.specs.Answers.{Written, between}
 use Rattle.server.specs.declared.record.Server.{Server}
 use Rattle.server.specs.declared.record.ServerAnswer.{ServerAnswer}
 use Rattle.server.specs.Transfers.{transferOf}

@@ -13,7 +13,7 @@ use Rattle.config.specs.declared.answer.Verdict.{Verdict}
 use Rattle.ledger.specs.declared.ledger.Ledger.{Ledger}
 use Rattle.ledger.specs.Maps.{named}
 use Rattle.ledger.specs.Weights.{weightOf, allOf, quorumOf}
-use Rattle.replica.specs.Envelopes.{receiveOf}
+use Rattle.message.specs.Answers.{receiveOf}
 use Rattle.machine.specs.Parties.{bytesOf}
 use Rattle.machine.specs.Runs.{nth, mostDesk, at, answersOf}
 use Rattle.machine.specs.Steps.{machine, PlainRun, runOf as plainRunOf}

@@ -8,7 +8,7 @@ use Rattle.quorums.specs.Sum.{sum}
 use Rattle.config.specs.declared.cluster.Config.{Config}
 use Rattle.ledger.specs.Ledgers.{countOf}
 use Rattle.ledger.specs.declared.ledger.Ledger.{Ledger}
-use Rattle.replica.specs.Envelopes.{receiveOf}
+use Rattle.message.specs.Answers.{receiveOf}
 use Rattle.desk.specs.declared.operation.Operation.{Operation}
 use Rattle.desk.specs.Operations.{running}
 use Rattle.machine.specs.Parties.{Register}

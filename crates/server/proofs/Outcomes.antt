@@ -11,11 +11,10 @@ use Rattle.config.specs.declared.answer.Refusal.{Refusal}
 use Rattle.config.specs.declared.answer.Verdict.{Verdict}
 use Rattle.config.specs.declared.answer.Verdict.the-variants.{Accepted, Refused}
 use Rattle.config.specs.declared.answer.Number.{Number}
-use Rattle.message.specs.Answers.{fits as room}
-use Rattle.replica.specs.declared.envelope.Envelope.{Envelope}
-use Rattle.replica.specs.declared.envelope.Received.{Received}
+use Rattle.message.specs.Answers.{fits as room, place, receiveOf}
+use Rattle.message.specs.declared.envelope.Envelope.{Envelope}
+use Rattle.message.specs.declared.answer.Received.{Received}
 use Rattle.replica.specs.declared.replica.Replica.{Replica}
-use Rattle.replica.specs.Envelopes.{place, receiveOf}
 use Rattle.server.specs.declared.record.Server.{Server}
 use Rattle.server.specs.Servers.{fits}
 use Rattle.server.specs.Serves.{Outcome, refuse, stray, clashes, joinedServer, replyMessage, replyOf, serveFields, serveOf}

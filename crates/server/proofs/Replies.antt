@@ -12,13 +12,13 @@ use Rattle.config.specs.Refusals.{refusal}
 use Rattle.config.specs.declared.answer.Verdict.{Verdict}
 use Rattle.config.specs.declared.answer.Number.{Number}
 use Rattle.config.proofs.Clusters.{value-not-refused}
-use Rattle.message.specs.Headers.{Bytes}
-use Rattle.replica.specs.declared.envelope.Envelope.{Envelope}
-use Rattle.replica.specs.declared.envelope.Received.{Received}
+use Rattle.message.specs.Envelopes.{Bytes, trimmedReplica}
+use Rattle.message.specs.declared.envelope.Envelope.{Envelope}
+use Rattle.message.specs.declared.answer.Received.{Received}
 use Rattle.replica.specs.declared.replica.Replica.{Replica}
-use Rattle.replica.specs.Envelopes.{between, receiveOf, trimmedReplica}
-use Rattle.replica.proofs.Envelopes.{receive-told}
-use Rattle.replica.proofs.Placed.{placed-message}
+use Rattle.message.specs.Answers.{between, receiveOf}
+use Rattle.message.proofs.Envelopes.{receive-told}
+use Rattle.message.proofs.Placed.{placed-message}
 use Rattle.server.specs.declared.record.Server.{Server}
 use Rattle.server.specs.Servers.{Typed}
 use Rattle.server.specs.Serves.{Outcome, stray, replyEnvelope, serveFields, serveOf}

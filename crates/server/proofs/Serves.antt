@@ -8,23 +8,22 @@ use mathlib.Core.Bool.{Bool, true, false, cond}
 use mathlib.Core.List.{List}
 use borrow.Author.Tests.{lt-ltb, eq-eqb, ne-eqb}
 use lib.Dec.{eqb}
-use lib.ListN.{length}
 use Rattle.config.specs.Refusals.{refusal}
 use Rattle.config.specs.declared.answer.Refusal.{Refusal}
 use Rattle.config.specs.declared.answer.Verdict.{Verdict}
 use Rattle.config.specs.declared.answer.Number.{Number}
 use Rattle.config.proofs.Clusters.{server-valid, server-small, value-not-refused}
-use Rattle.message.specs.Headers.{Bytes}
+use Rattle.message.specs.Envelopes.{Bytes, trimmedReplica, Typed as TypedEnvelope}
 use Rattle.message.specs.Cursors.{within}
-use Rattle.message.specs.Faults.{kindFits}
-use Rattle.replica.specs.declared.envelope.Envelope.{Envelope}
-use Rattle.replica.specs.declared.envelope.Received.{Received}
+use Rattle.message.specs.Faults.{kindFits, lawful, Passed}
+use Rattle.message.specs.declared.envelope.Envelope.{Envelope}
+use Rattle.message.specs.declared.answer.Received.{Received}
 use Rattle.replica.specs.declared.replica.Replica.{Replica}
 use Rattle.replica.specs.Replicas.{fits as fitsReplica, join, Typed as TypedReplica}
-use Rattle.replica.specs.Envelopes.{place, sendAnswer, sendBuffer, lawful, receiveOf, trimmedReplica, Typed as TypedEnvelope, Passed}
+use Rattle.message.specs.Answers.{Written, place, writeOf, receiveOf}
 use Rattle.replica.proofs.Replicas.{join-typed, join-fits, Grows, grows-left, grows-right}
-use Rattle.replica.proofs.Envelopes.{lawful-told, told-lawful, send-placed, received-back, receive-told}
-use Rattle.replica.proofs.Placed.{place-room, place-value, place-narrow}
+use Rattle.message.proofs.Envelopes.{lawful-told, told-lawful, write-placed, received-back, receive-told}
+use Rattle.message.proofs.Placed.{place-room, place-value, place-narrow}
 use Rattle.server.specs.declared.record.Server.{Server}
 use Rattle.server.specs.Servers.{fits, holding, Typed}
 use Rattle.server.specs.Serves.{Outcome, refuse, stray, clashes, joinedServer, replyEnvelope, replyMessage, serveFields, serveOf}
@@ -99,22 +98,24 @@ module _ (s : Server) (e : Envelope) (r : Replica) (t : Typed s) (f : fits s ≡
 
   module _ (out : List ℕ) (at : ℕ) (stays : stray s e ≡ false) (c : clashes s r ≡ false) (k : eqb (e .kind) 3 ≡ false) where
     -- what the writer gives is the reply that is placed
-    sent : (sendAnswer (s .config) (replyEnvelope s e) (join (s .replica) r) (length out) at ≡ place (replyMessage (joinedServer s r) e) out at .answer)
-        × (sendBuffer (s .config) (replyEnvelope s e) (join (s .replica) r) out at ≡ place (replyMessage (joinedServer s r) e) out at .out)
+    sent : writeOf (s .config) (replyEnvelope s e) (join (s .replica) r) out at ≡ place (replyMessage (joinedServer s r) e) out at
     sent =
-        send-placed (s .config) (replyEnvelope s e) (join (s .replica) r) (reply-typed s e f (p .envelope-typed)) held-typed
+        write-placed (s .config) (replyEnvelope s e) (join (s .replica) r) (reply-typed s e f (p .envelope-typed)) held-typed
         (reply-lawful s e f (p .envelope-lawful) k) (held-fits c) out at
 
     -- the writer's answer n, and the buffer b after it
     module _ (after : Replica) (n : Number) (b : List ℕ)
         (a : after ≡ join (s .replica) r)
-        (answers : n ≡ sendAnswer (s .config) (replyEnvelope s e) after (length out) at)
-        (leaves : b ≡ sendBuffer (s .config) (replyEnvelope s e) after out at) where
+        (answers : n ≡ writeOf (s .config) (replyEnvelope s e) after out at .answer)
+        (leaves : b ≡ writeOf (s .config) (replyEnvelope s e) after out at .out) where
+      written-is : writeOf (s .config) (replyEnvelope s e) after out at ≡ place (replyMessage (joinedServer s r) e) out at
+      written-is = ap (λ x. writeOf (s .config) (replyEnvelope s e) x out at) a ∙ sent
+
       answer-is : n ≡ place (replyMessage (joinedServer s r) e) out at .answer
-      answer-is = answers ∙ ap (λ x. sendAnswer (s .config) (replyEnvelope s e) x (length out) at) a ∙ sent .0
+      answer-is = answers ∙ ap (λ (w : Written). w .answer) written-is
 
       buffer-is : b ≡ place (replyMessage (joinedServer s r) e) out at .out
-      buffer-is = leaves ∙ ap (λ x. sendBuffer (s .config) (replyEnvelope s e) x out at) a ∙ sent .1
+      buffer-is = leaves ∙ ap (λ (w : Written). w .out) written-is
 
       -- a reply that is written is what serve comes to
       pub reply-done : (x : ℕ) → n ≡ Number.Value x

@@ -5,16 +5,16 @@ use mathlib.Core.Path.{_≡_, refl, sym, ap, _∙_}
 use mathlib.Core.Bool.{Bool, true, false, cond}
 use mathlib.Core.List.{List}
 use borrow.Author.Tests.{lt-ltb}
-use lib.ListN.{length}
 use Rattle.config.specs.Refusals.{refusal}
 use Rattle.config.specs.declared.answer.Verdict.{Verdict}
 use Rattle.config.specs.declared.answer.Number.{Number}
 use Rattle.config.proofs.Clusters.{server-valid, server-small, value-not-refused}
 use Rattle.message.specs.Cursors.{within}
-use Rattle.message.specs.Faults.{kindFits}
-use Rattle.replica.specs.Envelopes.{sendAnswer, sendBuffer, lawful, Written, place, between, receiveOf, trimmedReplica, Typed as TypedEnvelope}
-use Rattle.replica.proofs.Envelopes.{told-lawful, send-placed, received-back}
-use Rattle.replica.proofs.Placed.{placed-message}
+use Rattle.message.specs.Faults.{kindFits, lawful}
+use Rattle.message.specs.Envelopes.{trimmedReplica, Typed as TypedEnvelope}
+use Rattle.message.specs.Answers.{writeOf, Written, place, between, receiveOf}
+use Rattle.message.proofs.Envelopes.{told-lawful, write-placed, received-back}
+use Rattle.message.proofs.Placed.{placed-message}
 use Rattle.server.specs.declared.record.Server.{Server}
 use Rattle.server.specs.Servers.{fits, Typed}
 use Rattle.server.specs.Shares.{shareEnvelope, shareMessage, shareOf}
@@ -41,13 +41,11 @@ share-typed s f = record {
 
 module _ (s : Server) (t : Typed s) (f : fits s ≡ true) where
   -- what the writer gives is the share
-  pub share-sent : (out : List ℕ) (at : ℕ)
-      → (sendAnswer (s .config) (shareEnvelope s) (s .replica) (length out) at ≡ shareOf s out at .answer)
-      × (sendBuffer (s .config) (shareEnvelope s) (s .replica) out at ≡ shareOf s out at .out)
+  pub share-sent : (out : List ℕ) (at : ℕ) → writeOf (s .config) (shareEnvelope s) (s .replica) out at ≡ shareOf s out at
   unfolding shareOf
   share-sent out at =
       rw f
-      (send-placed (s .config) (shareEnvelope s) (s .replica) (share-typed s f) (t .replica-typed) (share-lawful s f) (fits-told s f .replica-fits) out at)
+      (write-placed (s .config) (shareEnvelope s) (s .replica) (share-typed s f) (t .replica-typed) (share-lawful s f) (fits-told s f .replica-fits) out at)
 
   -- and it reads back to its sender and what that holds, with zeros after the bytes of the value
   pub share-back : receiveOf (s .config) (shareMessage s)

@@ -13,13 +13,12 @@ use Rattle.config.specs.declared.answer.Verdict.{Verdict}
 use Rattle.config.specs.declared.answer.Verdict.the-variants.{Accepted, Refused}
 use Rattle.config.specs.declared.answer.Number.{Number}
 use Rattle.ledger.specs.Ledgers.{countOf}
-use Rattle.message.specs.Answers.{fits as room}
-use Rattle.replica.specs.declared.envelope.Envelope.{Envelope}
-use Rattle.replica.specs.declared.envelope.Received.{Received}
+use Rattle.message.specs.Answers.{fits as room, place, receiveOf}
+use Rattle.message.specs.declared.envelope.Envelope.{Envelope}
+use Rattle.message.specs.declared.answer.Received.{Received}
 use Rattle.replica.specs.declared.replica.Replica.{Replica}
 use Rattle.replica.specs.declared.replica.Joined.{Joined}
 use Rattle.replica.specs.Replicas.{joinable, join, joinAnswer, accepted, refused as notJoined}
-use Rattle.replica.specs.Envelopes.{place, receiveOf}
 use Rattle.replica.proofs.Told.{accepted-told, refused-told}
 use Rattle.server.specs.declared.record.Server.{Server}
 use Rattle.server.specs.declared.serve.Served.{Served}

@@ -9,12 +9,12 @@ use Rattle.config.specs.Refusals.{by-verdict, refusal}
 use Rattle.config.specs.declared.answer.Refusal.{Refusal}
 use Rattle.config.specs.declared.answer.Number.{Number}
 use Rattle.ledger.specs.Ledgers.{countOf}
-use Rattle.message.specs.Answers.{fits as room}
-use Rattle.replica.specs.declared.envelope.Envelope.{Envelope}
+use Rattle.message.specs.Answers.{fits as room, place, receiveOf}
+use Rattle.message.specs.declared.envelope.Envelope.{Envelope}
 use Rattle.replica.specs.declared.replica.Replica.{Replica}
 use Rattle.replica.specs.declared.replica.Joined.{Joined}
 use Rattle.replica.specs.Replicas.{joinable, join, accepted, refused as notJoined}
-use Rattle.replica.specs.Envelopes.{request, reply, share, messageOf, place, receiveOf}
+use Rattle.message.specs.Envelopes.{request, reply, share, messageOf}
 use Rattle.server.specs.declared.record.Server.{Server}
 use Rattle.server.specs.declared.serve.Served.{Served}
 use Rattle.server.specs.Servers.{fits, holding}

@@ -4,8 +4,9 @@ use mathlib.Core.Bool.{cond}
 use mathlib.Core.List.{List}
 use Rattle.config.specs.Refusals.{refusal}
 use Rattle.config.specs.declared.answer.Number.{Number}
-use Rattle.replica.specs.declared.envelope.Envelope.{Envelope}
-use Rattle.replica.specs.Envelopes.{share, messageOf, Written, place}
+use Rattle.message.specs.declared.envelope.Envelope.{Envelope}
+use Rattle.message.specs.Envelopes.{share, messageOf}
+use Rattle.message.specs.Answers.{Written, place}
 use Rattle.server.specs.declared.record.Server.{Server}
 use Rattle.server.specs.Servers.{fits}
 

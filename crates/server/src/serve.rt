@@ -3,16 +3,17 @@ use super::record::Server;
 use config::Number;
 use config::Refusal;
 use config::Verdict;
-use replica::Envelope;
+use message::Envelope;
+use message::REPLY;
+use message::REQUEST;
+use message::SHARE;
+use reader::receive;
 use replica::Joined;
-use replica::REPLY;
-use replica::REQUEST;
 use replica::Replica;
-use replica::SHARE;
-use replica::receive;
+use writer::write;
 ghost use mathlib.Core.Path.{_≡_};
 ghost use mathlib.Core.Bool.{true};
-ghost use Rattle.replica.specs.Envelopes.{Passed};
+ghost use Rattle.message.specs.Faults.{Passed};
 ghost use Rattle.server.specs.Servers.{fits as fitsOf};
 ghost use Rattle.server.specs.Serves.{refused as refusedOf, stray as strayOf, joinOf, serveFields, serveOf};
 
@@ -82,7 +83,7 @@ impl Server {
             round: envelope.round,
             note: envelope.note,
         };
-        match after.send(config, reply, out, at) {
+        match write(config, reply, after, out, at) {
             Number::Value(end) => Served {
                 answer: Number::Value(end),
                 server: next,

@@ -2,8 +2,9 @@
 use super::record::Server;
 use config::Number;
 use config::Refusal;
-use replica::Envelope;
-use replica::SHARE;
+use message::Envelope;
+use message::SHARE;
+use writer::write;
 ghost use mathlib.Core.Path.{_≡_};
 ghost use Rattle.server.specs.Shares.{shareOf};
 
@@ -24,6 +25,6 @@ impl Server {
             round: 0,
             note: 0,
         };
-        replica.send(config, envelope, out, at)
+        write(config, envelope, replica, out, at)
     }
 }

@@ -15,15 +15,14 @@ use Rattle.ledger.specs.Ledgers.{freshLedger, givenOf, receivedOf}
 use Rattle.ledger.specs.Weights.{weightOf}
 use Rattle.ledger.specs.Checks.{mayHold, totalFits, bounded, aboveFloor}
 use Rattle.ledger.specs.Changes.{lawful, added}
+use Rattle.ledger.specs.Tables.{run, table}
 use Rattle.format.specs.Bytes.{bytes, number, series, stands, marks}
 use Rattle.format.specs.Table.{registerMark, register, cellMap, cells, rowMark, row, rowMap, rows, sheet, fieldMap, fieldMapOf, head, note, encodeFields}
-use Rattle.message.specs.Headers.{encode}
-use Rattle.message.specs.Answers.{fits as room, over}
-use Rattle.message.specs.Faults.{registerFits}
+use Rattle.message.specs.Envelopes.{messageOf}
+use Rattle.message.specs.Answers.{fits as room, over, Written, place}
 use Rattle.replica.specs.Values.{emptyValue, bytesOf}
-use Rattle.replica.specs.Registers.{startRegister, fits as fitsRegister}
+use Rattle.replica.specs.Registers.{startRegister, isStart, registerFits}
 use Rattle.replica.specs.Replicas.{fits as fitsReplica}
-use Rattle.replica.specs.Envelopes.{messageOf, Written, place}
 use Rattle.server.specs.declared.record.Server.{Server}
 use Rattle.server.specs.Servers.{fits, accepted, refused, freshServer, blankServer, openOf}
 use Rattle.server.specs.Transfers.{spares, giveOf, transferOf}
@@ -98,8 +97,8 @@ pub record BadCalls : Type 0 where
   pub share-light : shareOf light (replicate 6 0xAA) 7 ≡ unwritten (refusal 1) (replicate 6 0xAA)
 
 pub bad-calls : BadCalls
-unfolding openOf serverOf validOf transferOf giveOf spares lawful added fits fitsReplica fitsRegister registerFits registerMark bounded mayHold totalFits
-    aboveFloor aboveOf above totalOf startOf weightOf weight difference givenOf receivedOf all sum shareOf place room over messageOf bytesOf encode encodeFields
+unfolding openOf serverOf validOf transferOf giveOf spares lawful added fits fitsReplica registerFits isStart registerMark bounded mayHold totalFits
+    aboveFloor aboveOf above totalOf startOf weightOf weight difference givenOf receivedOf all sum shareOf place room over messageOf bytesOf table run encodeFields
     fieldMapOf fieldMap head register sheet rows row cells cellMap rowMark rowMap note number series marks stands bytes
 bad-calls = record {
   no-server = refl;

@@ -26,14 +26,13 @@ use Rattle.ledger.proofs.Kept.{added-typed}
 use Rattle.ledger.proofs.Fresh.{fresh-typed}
 use Rattle.format.specs.Bytes.{bytes, number, series, stands, marks, bit}
 use Rattle.format.specs.Table.{registerMark, register, cellMap, cells, rowMark, row, rowMap, rows, sheet, fieldMap, fieldMapOf, head, note, encodeFields}
-use Rattle.message.specs.Headers.{encode}
+use Rattle.message.specs.Envelopes.{messageOf}
 use Rattle.message.specs.Cursors.{within}
-use Rattle.message.specs.Answers.{decode, fits as room, over}
-use Rattle.message.specs.Faults.{kindFits, registerFits, faultOf}
+use Rattle.message.specs.Answers.{check, fits as room, over, place}
+use Rattle.message.specs.Faults.{kindFits, faultOf}
 use Rattle.replica.specs.Values.{bytesOf}
-use Rattle.replica.specs.Registers.{fits as fitsRegister}
+use Rattle.replica.specs.Registers.{isStart, registerFits}
 use Rattle.replica.specs.Replicas.{fits as fitsReplica}
-use Rattle.replica.specs.Envelopes.{messageOf, place}
 use Rattle.server.specs.declared.record.ServerAnswer.{ServerAnswer}
 use Rattle.server.specs.Servers.{fits, openOf}
 use Rattle.server.specs.Transfers.{spares, giveOf, transferOf}
@@ -42,7 +41,7 @@ use Rattle.seats.specs.Offers.{freeIn, offered, offerAnswer}
 use Rattle.worked.proofs.Refusals.{five}
 use Rattle.worked.proofs.Gifts.{byFloor, floor-decides}
 use Rattle.worked.proofs.Quorums.{no-two-of-four}
-use Rattle.worked.proofs.Messages.{share, share-number}
+use Rattle.worked.proofs.Messages.{share, sheet-only, share-number}
 
 -- ---- what the cases are about
 
@@ -80,10 +79,10 @@ sound-share j =
 
 -- both are the bytes of such a ledger by the table; the first reads 5, and the second has no fault
 pub record Reads (j : ℕ) : Type 0 where
-  pub light-bytes : encode five (share 1 (added freshLedger 1 j 748)) [] ≡ light-share j
-  pub light : decode five (light-share j) .number ≡ 5
-  pub sound-bytes : encode five (share 1 (added (added freshLedger 0 1 374) 1 j 748)) [] ≡ sound-share j
-  pub sound : decode five (sound-share j) .number ≡ 0
+  pub light-bytes : messageOf five (share 1) (sheet-only (added freshLedger 1 j 748)) ≡ light-share j
+  pub light : check five (light-share j) ≡ 5
+  pub sound-bytes : messageOf five (share 1) (sheet-only (added (added freshLedger 0 1 374) 1 j 748)) ≡ sound-share j
+  pub sound : check five (sound-share j) ≡ 0
 
 -- ---- the cases
 
@@ -114,7 +113,7 @@ pub record Cases : Type 0 where
 -- ---- cases 8 and 9, by computation
 
 after-both : AfterBoth (2 ^ 2 + 2 ^ 4) Decision.Yes × AfterBoth (2 ^ 2 + 2 ^ 0) Decision.No
-unfolding openOf serverOf validOf transferOf giveOf spares lawful added fits fitsReplica fitsRegister registerFits registerMark bounded mayHold totalFits
+unfolding openOf serverOf validOf transferOf giveOf spares lawful added fits fitsReplica registerFits isStart registerMark bounded mayHold totalFits
     aboveFloor aboveOf above totalOf startOf weightOf weight difference givenOf receivedOf joinAnswer joins joined agree later all table run sum sumℤ
     named mapOf quorumAnswer quorumOf quorum margin weightIn total
 after-both = (
@@ -132,16 +131,16 @@ abbrev after-gift : ℕ → Ledger
 after-gift j = added (added freshLedger 0 1 374) 1 j 748
 
 record Computed (j : ℕ) : Type 0 where
-  pub light-bytes : encode five (share 1 (alone j)) [] ≡ light-share j
-  pub sound-bytes : encode five (share 1 (after-gift j)) [] ≡ sound-share j
-  pub light-fault : faultOf five (share 1 (alone j)) 0 ≡ 5
-  pub sound-fault : faultOf five (share 1 (after-gift j)) 0 ≡ 0
+  pub light-bytes : messageOf five (share 1) (sheet-only (alone j)) ≡ light-share j
+  pub sound-bytes : messageOf five (share 1) (sheet-only (after-gift j)) ≡ sound-share j
+  pub light-fault : faultOf five (share 1) (sheet-only (alone j)) ≡ 5
+  pub sound-fault : faultOf five (share 1) (sheet-only (after-gift j)) ≡ 0
   pub light-room : roomFor 0 (cellOf freshLedger 1 j) 748 ≡ true
   pub sound-room : roomFor (countOf (added freshLedger 0 1 374) 1) (cellOf (added freshLedger 0 1 374) 1 j) 748 ≡ true
 
 computed : (j : ℕ) → j < 5 → (j ≡ 1 → ⊥) → Computed j
-unfolding encode encodeFields fieldMapOf fieldMap head register registerMark sheet rows row cells cellMap rowMark rowMap note number series marks stands bytes
-    sum all stampBytes added roomFor validOf faultOf kindFits registerFits within bounded mayHold totalFits aboveFloor aboveOf above totalOf startOf weightOf
+unfolding messageOf bytesOf table run encodeFields fieldMapOf fieldMap head register registerMark sheet rows row cells cellMap rowMark rowMap note number series marks stands bytes
+    sum all stampBytes added roomFor validOf faultOf kindFits registerFits isStart within bounded mayHold totalFits aboveFloor aboveOf above totalOf startOf weightOf
     weight difference givenOf receivedOf
 computed zero l d = record { light-bytes = refl; sound-bytes = refl; light-fault = refl; sound-fault = refl; light-room = refl; sound-room = refl }
 computed (suc zero) l d = absurd (d refl)
@@ -164,9 +163,9 @@ reads j l d =
     let sound-typed = added-typed (added freshLedger 0 1 374) 1 j 748 gift-typed (omega arith) (omega arith) (k .sound-room) in
     record {
       light-bytes = k .light-bytes;
-      light = subst (λ m. decode five m .number ≡ 5) (k .light-bytes) (share-number five 1 (alone j) (omega arith) light-typed ∙ k .light-fault);
+      light = subst (λ m. check five m ≡ 5) (k .light-bytes) (share-number five 1 (alone j) (omega arith) light-typed ∙ k .light-fault);
       sound-bytes = k .sound-bytes;
-      sound = subst (λ m. decode five m .number ≡ 0) (k .sound-bytes) (share-number five 1 (after-gift j) (omega arith) sound-typed ∙ k .sound-fault);
+      sound = subst (λ m. check five m ≡ 0) (k .sound-bytes) (share-number five 1 (after-gift j) (omega arith) sound-typed ∙ k .sound-fault);
     }
 
 -- ---- all of them
@@ -201,7 +200,7 @@ pub record ShareInHex : Type 0 where
       ≡ replicate 3 0xAA ++ (0x00 ∷ 0x23 ∷ 0x03 ∷ 0x00 ∷ 0x00 ∷ 0x01 ∷ 0x00 ∷ 0x01 ∷ 0x00 ∷ 0x04 ∷ 0x00 ∷ 0x00 ∷ 0x00 ∷ 0xC8 ∷ []) ++ replicate 3 0xAA
 
 pub share-in-hex : ShareInHex
-unfolding openOf serverOf validOf transferOf giveOf spares lawful added fits fitsReplica fitsRegister registerFits registerMark bounded mayHold totalFits
-    aboveFloor aboveOf above totalOf startOf weightOf weight difference givenOf receivedOf all sum shareOf place room over messageOf bytesOf encode encodeFields
+unfolding openOf serverOf validOf transferOf giveOf spares lawful added fits fitsReplica registerFits isStart registerMark bounded mayHold totalFits
+    aboveFloor aboveOf above totalOf startOf weightOf weight difference givenOf receivedOf all sum shareOf place room over messageOf bytesOf table run encodeFields
     fieldMapOf fieldMap head register sheet rows row cells cellMap rowMark rowMap note number series marks stands bytes
 share-in-hex = record { given = refl; answer = refl; buffer = refl }

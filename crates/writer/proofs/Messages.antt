@@ -1,46 +1,70 @@
 -- A register and a whole message, from what the code has of them, and how long they are.
-use Prim.Native.Nat.{ℕ, _+_, _≤_, min}
+use Prim.Native.Nat.{ℕ, _+_, _*_, _≤_, min}
 use native.Mathlib.Omega.{arith}
-use mathlib.Core.Path.{_≡_}
-use mathlib.Core.List.{List, _++_, append-assoc}
+use mathlib.Core.Path.{_≡_, ap, _∙_}
+use mathlib.Core.List.{_++_, append-assoc}
 use lib.ListN.{length}
 use Rattle.config.specs.Cluster.{stampBytes}
 use Rattle.config.specs.declared.cluster.Config.{Config}
 use Rattle.ledger.specs.Ledgers.{countOf, cellOf}
-use Rattle.format.specs.Bytes.{number}
-use Rattle.format.specs.Table.{head, registerMark, register, rowMap, rows, sheet, note, fieldMapOf, encodeFields}
+use Rattle.format.specs.Bytes.{number, stands}
+use Rattle.format.specs.Table.{head, registerMark, register, rowMap, rows, sheet, note, fieldMap, fieldMapOf, encodeFields}
 use Rattle.format.proofs.Sizes.{fields-length}
-use Rattle.message.specs.declared.header.Header.{Header}
-use Rattle.message.specs.Headers.{fieldsOf, encode}
+use Rattle.replica.specs.declared.value.Value.{Value}
+use Rattle.replica.specs.declared.replica.Replica.{Replica}
+use Rattle.replica.specs.Values.{bytesOf}
+use Rattle.replica.proofs.Values.{bytes-length}
+use Rattle.message.specs.declared.envelope.Envelope.{Envelope}
+use Rattle.message.specs.Envelopes.{carried, fieldsOf, messageOf}
 use Rattle.writer.specs.Outlines.{sizeOf}
 
 -- a register whose value has at most 64 bytes
-pub register-written : (c : Config) (stamp desk : ℕ) (value : List ℕ) → length value ≤ 64
-    → number (stamp + desk + length value) (stampBytes c) stamp ++ number (stamp + desk + length value) 2 desk
-    ++ number (stamp + desk + length value) 1 (length value)
-    ++ value
-    ≡ register c stamp desk value
+pub register-written : (c : Config) (stamp desk : ℕ) (v : Value) → v .length ≤ 64
+    → number (stamp + desk + v .length) (stampBytes c) stamp ++ number (stamp + desk + v .length) 2 desk ++ number (stamp + desk + v .length) 1 (v .length)
+    ++ bytesOf v
+    ≡ register c stamp desk (bytesOf v)
 unfolding register registerMark
-register-written c stamp desk value h = let e : min (length value) 255 ≡ length value = omega arith in rw e
+register-written c stamp desk v h = let e : min (v .length) 255 ≡ v .length = omega arith in rw (bytes-length v, e)
 
-pub message-written : (c : Config) (h : Header) (v : List ℕ) (map rowsMap : ℕ) → map ≡ fieldMapOf (fieldsOf h v)
-    → rowsMap ≡ rowMap (countOf (h .ledger)) (cellOf (h .ledger))
-    → head map (h .kind) (h .server) (h .desk) (h .round) ++ register c (h .tag .stamp) (h .tag .desk) v ++ number rowsMap 2 rowsMap
-    ++ rows (countOf (h .ledger)) (cellOf (h .ledger))
-    ++ number (h .note) 4 (h .note)
-    ≡ encode c h v
-unfolding encode encodeFields sheet note
-message-written c h v map rowsMap e r =
-    let m : ℕ = rowMap (countOf (h .ledger)) (cellOf (h .ledger)) in
-    rw (
-      e,
-      r,
-      append-assoc (head (fieldMapOf (fieldsOf h v)) (h .kind) (h .server) (h .desk) (h .round) ++ register c (h .tag .stamp) (h .tag .desk) v)
-          (number m 2 m) (rows (countOf (h .ledger)) (cellOf (h .ledger))),
-    )
+module _ (c : Config) (e : Envelope) (r : Replica) where
+  pub message-written : (map rowsMap : ℕ) → map ≡ fieldMapOf (fieldsOf e r) → rowsMap ≡ rowMap (countOf (r .ledger)) (cellOf (r .ledger))
+      → head map (e .kind) (e .server) (e .desk) (e .round) ++ register c (r .register .stamp) (r .register .desk) (carried r) ++ number rowsMap 2 rowsMap
+      ++ rows (countOf (r .ledger)) (cellOf (r .ledger))
+      ++ number (e .note) 4 (e .note)
+      ≡ messageOf c e r
+  unfolding messageOf encodeFields sheet note
+  message-written map rowsMap m s =
+      let all : ℕ = rowMap (countOf (r .ledger)) (cellOf (r .ledger)) in
+      rw (
+        m,
+        s,
+        append-assoc
+            (head (fieldMapOf (fieldsOf e r)) (e .kind) (e .server) (e .desk) (e .round) ++ register c (r .register .stamp) (r .register .desk) (carried r))
+            (number all 2 all) (rows (countOf (r .ledger)) (cellOf (r .ledger))),
+      )
 
-pub message-length : (c : Config) (h : Header) (v : List ℕ)
-    → length (encode c h v)
-    ≡ sizeOf c h (length v) (rowMap (countOf (h .ledger)) (cellOf (h .ledger))) (length (rows (countOf (h .ledger)) (cellOf (h .ledger))))
-unfolding encode sizeOf
-message-length c h v = fields-length c (fieldsOf h v)
+  pub message-length : length (messageOf c e r)
+      ≡ sizeOf c e (r .register) (rowMap (countOf (r .ledger)) (cellOf (r .ledger))) (length (rows (countOf (r .ledger)) (cellOf (r .ledger))))
+  unfolding messageOf sizeOf
+  message-length =
+      fields-length c (fieldsOf e r)
+      ∙ ap
+      (λ n.
+      4 + 2 * stands (e .desk) + 4 * stands (e .round)
+      + (stampBytes c + 3) * stands (registerMark (r .register .stamp) (r .register .desk) n)
+      + n
+      + 2 * stands (rowMap (countOf (r .ledger)) (cellOf (r .ledger)))
+      + length (rows (countOf (r .ledger)) (cellOf (r .ledger)))
+      + 4 * stands (e .note))
+      (bytes-length (r .register .value))
+
+  -- the map, from the length of the value
+  pub map-length : fieldMapOf (fieldsOf e r)
+      ≡ fieldMap (e .desk) (e .round) (registerMark (r .register .stamp) (r .register .desk) (r .register .value .length))
+      (rowMap (countOf (r .ledger)) (cellOf (r .ledger))) (e .note)
+  unfolding fieldMapOf
+  map-length =
+      ap
+      (λ n.
+      fieldMap (e .desk) (e .round) (registerMark (r .register .stamp) (r .register .desk) n) (rowMap (countOf (r .ledger)) (cellOf (r .ledger))) (e .note))
+      (bytes-length (r .register .value))

@@ -40,7 +40,7 @@ number-present zero w x ne = absurd (ne refl)
 number-present (suc s) w x ne = refl
 
 -- a value goes in from its first byte up
-pub value-up : (k : ℕ) (v out : List ℕ) → k < length v → length v ≤ length out
+pub value-up : (k : ℕ) (v out : List ℕ) → k < length v → k < length out
     → set (over (take k v) out) k (getD v k 0) ≡ over (take (k + 1) v) out
 value-up k v out h room =
     let l : length (take k v) ≡ k = length-take-le k v (omega arith) in

@@ -8,24 +8,32 @@ use Rattle.config.specs.Cluster.{stampBytes}
 use Rattle.config.specs.declared.cluster.Config.{Config}
 use Rattle.format.specs.Bytes.{stands}
 use Rattle.format.specs.Table.{registerMark, fieldMap}
-use Rattle.message.specs.declared.header.Header.{Header}
+use Rattle.replica.specs.declared.register.Register.{Register}
+use Rattle.replica.specs.declared.replica.Replica.{Replica}
+use Rattle.message.specs.declared.envelope.Envelope.{Envelope}
 use Rattle.writer.specs.declared.outline.Outline.{Outline}
 
 -- every row whose count is 0 is empty, as in a ledger within bounds
 abbrev pub Counted : List ℕ → List ℕ → Type 0
 Counted counts cells = (i : ℕ) → i < 16 → getD counts i 0 ≡ 0 → sum 16 (λ j. getD cells (i * 16 + j) 0) ≡ 0
 
--- the size, where the value has `length` bytes, `rows` is the row map, and the rows have `bytes` bytes
-unfoldable pub sizeOf : Config → Header → ℕ → ℕ → ℕ → ℕ
-sizeOf c h length rows bytes =
-    4 + 2 * stands (h .desk) + 4 * stands (h .round) + (stampBytes c + 3) * stands (registerMark (h .tag .stamp) (h .tag .desk) length) + length
+-- the replica with these counts, cells and register
+abbrev pub replicaIn : List ℕ → List ℕ → Register → Replica
+replicaIn counts cells g = record { ledger = record { counts = counts; cells = cells }; register = g }
+
+-- the size, where `rows` is the row map, and the rows have `bytes` bytes
+unfoldable pub sizeOf : Config → Envelope → Register → ℕ → ℕ → ℕ
+sizeOf c e g rows bytes =
+    4 + 2 * stands (e .desk) + 4 * stands (e .round)
+    + (stampBytes c + 3) * stands (registerMark (g .stamp) (g .desk) (g .value .length))
+    + g .value .length
     + 2 * stands rows
     + bytes
-    + 4 * stands (h .note)
+    + 4 * stands (e .note)
 
-unfoldable pub outlineOf : Config → Header → ℕ → ℕ → ℕ → Outline
-outlineOf c h length rows bytes =
+unfoldable pub outlineOf : Config → Envelope → Register → ℕ → ℕ → Outline
+outlineOf c e g rows bytes =
     record {
-      map = fieldMap (h .desk) (h .round) (registerMark (h .tag .stamp) (h .tag .desk) length) rows (h .note);
-      bytes = sizeOf c h length rows bytes;
+      map = fieldMap (e .desk) (e .round) (registerMark (g .stamp) (g .desk) (g .value .length)) rows (e .note);
+      bytes = sizeOf c e g rows bytes;
     }

@@ -1,30 +1,34 @@
 // The call.
-use super::header::fault;
+use super::fault::fault;
 use super::outline::mark_rows;
 use super::outline::measure;
 use super::whole::fill;
 use config::Config;
 use config::Number;
 use config::Refusal;
-use message::Header;
+use message::Envelope;
+use replica::Replica;
 ghost use mathlib.Core.Path.{_≡_};
-ghost use lib.ListN.{length};
-ghost use Rattle.message.specs.Answers.{writeAnswer, writeBuffer};
+ghost use Rattle.message.specs.Answers.{writeOf};
 
 // Writes a message into a buffer from a place on, and hands back the place after it. Refused are what the reader would refuse, by its number,
 // and then a message that does not fit (13); the buffer is then as it was.
-pub fn write(config: Config, header: Header, value: &[u8], out: &mut [u8], at: usize) -> Number
-    ensures { λ r. ⌜ (r ≡ writeAnswer config header (now (value .entry)) (length (now (out .entry))) at) × (now (out .exit) ≡ writeBuffer config header (now (value .entry)) (now (out .entry)) at) ⌝ }
+pub fn write(
+    config: Config,
+    envelope: Envelope,
+    replica: Replica,
+    out: &mut [u8],
+    at: usize,
+) -> Number
+    ensures { λ r. ⌜ (r ≡ writeOf config envelope replica (now (out .entry)) at .answer) × (now (out .exit) ≡ writeOf config envelope replica (now (out .entry)) at .out) ⌝ }
 {
-    let found = fault(config, header, value.len());
+    let found = fault(config, envelope, replica);
     if found != 0 {
         return Number::Refused(Refusal::of(found));
     }
-    let ledger = header.ledger;
-    let counts = ledger.counts;
-    let cells = ledger.cells;
-    let rows = mark_rows(&counts, &cells);
-    let plan = measure(config, header, value.len() as u64, rows.map, rows.bytes);
+    let register = replica.register;
+    let rows = mark_rows(&replica.ledger.counts, &replica.ledger.cells);
+    let plan = measure(config, envelope, register, rows.map, rows.bytes);
     if out.len() < at {
         return Number::Refused(Refusal::Narrow);
     }
@@ -34,10 +38,10 @@ pub fn write(config: Config, header: Header, value: &[u8], out: &mut [u8], at: u
     let written = fill(
         &mut out[at..],
         config,
-        header,
-        &counts,
-        &cells,
-        value,
+        envelope,
+        register,
+        &replica.ledger.counts,
+        &replica.ledger.cells,
         plan.map,
         rows,
     );

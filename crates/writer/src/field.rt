@@ -2,44 +2,45 @@
 use super::put::put_number;
 use super::put::put_value;
 use config::Config;
-use message::Header;
-use message::Tag;
+use message::Envelope;
+use replica::Register;
 ghost use mathlib.Core.Path.{_≡_};
 ghost use Prim.Native.Nat.{ℕ, _+_, _*_, _≤_};
 ghost use lib.ListN.{length, getD};
-ghost use Rattle.format.specs.Table.{head, register, cellMap, cells as cellsOf, row as rowOf, rows as rowsOf};
+ghost use Rattle.format.specs.Table.{head, register as registerOf, cellMap, cells as cellsOf, row as rowOf, rows as rowsOf};
 ghost use Rattle.ledger.specs.Tables.{table};
+ghost use Rattle.replica.specs.Values.{bytesOf};
 ghost use Rattle.message.specs.Answers.{over};
 
 // The map, kind, server, desk and round.
-pub(crate) fn put_head(out: &mut [u8], map: u64, header: Header) -> usize
-    requires { ⌜ length (head map (header .kind) (header .server) (header .desk) (header .round)) ≤ length (now out) ⌝ }
-    ensures { λ r. ⌜ (now (out .exit) ≡ over (head map (header .kind) (header .server) (header .desk) (header .round)) (now (out .entry))) × (r ≡ length (head map (header .kind) (header .server) (header .desk) (header .round))) ⌝ }
+pub(crate) fn put_head(out: &mut [u8], map: u64, envelope: Envelope) -> usize
+    requires { ⌜ length (head map (envelope .kind) (envelope .server) (envelope .desk) (envelope .round)) ≤ length (now out) ⌝ }
+    ensures { λ r. ⌜ (now (out .exit) ≡ over (head map (envelope .kind) (envelope .server) (envelope .desk) (envelope .round)) (now (out .entry))) × (r ≡ length (head map (envelope .kind) (envelope .server) (envelope .desk) (envelope .round))) ⌝ }
 {
-    let desk = header.desk as u64;
-    let round = header.round as u64;
+    let desk = envelope.desk as u64;
+    let round = envelope.round as u64;
     let mut p = put_number(out, 1, 2, map);
-    p += put_number(&mut out[p..], 1, 1, header.kind as u64);
-    p += put_number(&mut out[p..], 1, 1, header.server as u64);
+    p += put_number(&mut out[p..], 1, 1, envelope.kind as u64);
+    p += put_number(&mut out[p..], 1, 1, envelope.server as u64);
     p += put_number(&mut out[p..], desk, 2, desk);
     p += put_number(&mut out[p..], round, 4, round);
     p
 }
 
 // The register.
-pub(crate) fn put_register(out: &mut [u8], config: Config, tag: Tag, value: &[u8]) -> usize
-    requires { ⌜ (length (now value) ≤ 64) × (length (register config (tag .stamp) (tag .desk) (now value)) ≤ length (now out)) ⌝ }
-    ensures { λ r. ⌜ (now (out .exit) ≡ over (register config (tag .stamp) (tag .desk) (now (value .entry))) (now (out .entry))) × (r ≡ length (register config (tag .stamp) (tag .desk) (now (value .entry)))) ⌝ }
+pub(crate) fn put_register(out: &mut [u8], config: Config, register: Register) -> usize
+    requires { ⌜ (register .value .length ≤ 64) × (length (registerOf config (register .stamp) (register .desk) (bytesOf (register .value))) ≤ length (now out)) ⌝ }
+    ensures { λ r. ⌜ (now (out .exit) ≡ over (registerOf config (register .stamp) (register .desk) (bytesOf (register .value))) (now (out .entry))) × (r ≡ length (registerOf config (register .stamp) (register .desk) (bytesOf (register .value)))) ⌝ }
 {
-    let length = value.len() as u64;
-    let stamp = tag.stamp as u64;
-    let desk = tag.desk as u64;
+    let length = register.value.length as u64;
+    let stamp = register.stamp as u64;
+    let desk = register.desk as u64;
     let stands = stamp + desk + length;
     let width = config.stamp_bytes() as usize;
     let mut p = put_number(out, stands, width, stamp);
     p += put_number(&mut out[p..], stands, 2, desk);
     p += put_number(&mut out[p..], stands, 1, length);
-    p += put_value(&mut out[p..], value);
+    p += put_value(&mut out[p..], &register.value.bytes, length as usize);
     p
 }
 

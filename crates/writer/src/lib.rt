@@ -1,7 +1,7 @@
 // Writing messages (paper 01, "Message bytes").
 mod call;
+mod fault;
 mod field;
-mod header;
 mod outline;
 mod put;
 mod whole;

@@ -1,6 +1,7 @@
-// What of a header stands in its message, and how long the message is, found before the first byte is written.
+// What of an envelope and a replica stands in their message, and how long the message is, found before the first byte is written.
 use config::Config;
-use message::Header;
+use message::Envelope;
+use replica::Register;
 ghost use mathlib.Core.Path.{_≡_};
 ghost use Prim.Native.Nat.{ℕ, _+_, _*_, _≤_, _<_};
 ghost use lib.ListN.{length, getD};
@@ -69,7 +70,7 @@ pub(crate) fn counted_marks(count: u64, row: &[u32]) -> RowMarks
 }
 
 // The rows of a ledger in which every row whose count is 0 is empty.
-pub(crate) fn mark_rows(counts: &[u16], cells: &[u32]) -> Rows
+pub(crate) fn mark_rows<'a>(counts: &'a [u16], cells: &'a [u32]) -> Rows
     requires { ⌜ (length (now counts) ≡ 16) × (length (now cells) ≡ 256) × Counted (now counts) (now cells) ⌝ }
     ensures { λ r. ⌜ (r .map ≡ rowMap (λ i. getD (now (counts .entry)) i 0) (λ i j. getD (now (cells .entry)) (i * 16 + j) 0)) × (r .maps ≡ table 16 (λ i. cellMap (λ j. getD (now (cells .entry)) (i * 16 + j) 0))) × (r .bytes ≡ length (rowsOf (λ i. getD (now (counts .entry)) i 0) (λ i j. getD (now (cells .entry)) (i * 16 + j) 0))) × (r .map ≤ 65535) × (r .bytes ≤ 1088) ⌝ }
 {
@@ -93,23 +94,29 @@ pub(crate) fn mark_rows(counts: &[u16], cells: &[u32]) -> Rows
     Rows { map, maps, bytes }
 }
 
-// The map and the size of a message, from its header, the length of its value, and the row map and bytes of its rows.
-pub(crate) fn measure(config: Config, header: Header, length: u64, rows: u64, bytes: u64) -> Outline
-    requires { ⌜ (length ≤ 64) × (rows ≤ 65535) × (bytes ≤ 1088) ⌝ }
-    ensures { λ r. ⌜ (r ≡ outlineOf config header length rows bytes) × (r .map ≤ 127) × (r .bytes ≤ 4096) ⌝ }
+// The map and the size of a message, from its envelope and register, and the row map and bytes of its rows.
+pub(crate) fn measure(
+    config: Config,
+    envelope: Envelope,
+    register: Register,
+    rows: u64,
+    bytes: u64,
+) -> Outline
+    requires { ⌜ (register .value .length ≤ 64) × (rows ≤ 65535) × (bytes ≤ 1088) ⌝ }
+    ensures { λ r. ⌜ (r ≡ outlineOf config envelope register rows bytes) × (r .map ≤ 127) × (r .bytes ≤ 4096) ⌝ }
 {
-    let tag = header.tag;
-    let desk = mark(header.desk as u64);
-    let round = mark(header.round as u64);
-    let register = mark((tag.stamp as u64) + (tag.desk as u64) + length);
+    let length = register.value.length as u64;
+    let desk = mark(envelope.desk as u64);
+    let round = mark(envelope.round as u64);
+    let tagged = mark((register.stamp as u64) + (register.desk as u64) + length);
     let sheet = mark(rows);
-    let note = mark(header.note as u64);
+    let note = mark(envelope.note as u64);
     Outline {
-        map: 3 + 4 * desk + 8 * round + 16 * register + 32 * sheet + 64 * note,
+        map: 3 + 4 * desk + 8 * round + 16 * tagged + 32 * sheet + 64 * note,
         bytes: 4
             + 2 * desk
             + 4 * round
-            + (config.stamp_bytes() + 3) * register
+            + (config.stamp_bytes() + 3) * tagged
             + length
             + 2 * sheet
             + bytes

@@ -1,7 +1,7 @@
 // Numbers into the front of a buffer. Each writer hands back how many bytes it wrote; the bytes after them stay.
 ghost use mathlib.Core.Path.{_≡_};
 ghost use Prim.Native.Nat.{_≤_};
-ghost use lib.ListN.{length};
+ghost use lib.ListN.{length, length as size, take};
 ghost use Rattle.format.specs.Bytes.{bytes, number};
 ghost use Rattle.message.specs.Answers.{over};
 
@@ -31,14 +31,14 @@ pub(crate) fn put_number(out: &mut [u8], stands: u64, width: usize, x: u64) -> u
     width
 }
 
-// The bytes of a value.
-pub(crate) fn put_value(out: &mut [u8], value: &[u8]) -> usize
-    requires { ⌜ length (now value) ≤ length (now out) ⌝ }
-    ensures { λ r. ⌜ (now (out .exit) ≡ over (now (value .entry)) (now (out .entry))) × (r ≡ length (now (value .entry))) ⌝ }
+// The first `length` bytes of an array: those of a value.
+pub(crate) fn put_value(out: &mut [u8], bytes: &[u8], length: usize) -> usize
+    requires { ⌜ (length ≤ size (now bytes)) × (length ≤ size (now out)) ⌝ }
+    ensures { λ r. ⌜ (now (out .exit) ≡ over (take length (now (bytes .entry))) (now (out .entry))) × (r ≡ length) ⌝ }
 {
     let mut k: usize = 0;
-    while k < value.len() {
-        out[k] = value[k];
+    while k < length {
+        out[k] = bytes[k];
         k += 1;
     }
     k

@@ -8,6 +8,10 @@ use lib.Seq.{length-take-le}
 use Rattle.cases.proofs.reading.answer_message.Statement.{statement}
 use Rattle.cases.proofs.reading.answer_message.Tie as tie
 
+-- the entry, from the last call
+abbrev start : tie.After-tried → tie.Start
+start c = c .before .before .before .before .before .before .before .before .before .before .before
+
 sub-end : tie.Need-sub-end
 sub-end c = search needs
 
@@ -48,7 +52,7 @@ tried-requires : tie.Need-tried-requires
 tried-requires c κs = search needs
 
 again-requires : tie.Need-again-requires
-again-requires c κs = omega (arith, length-take (length (c .before .before .before .before .before .before .before .before .before .before .before .before .args .longer .now) - 1) (c .before .before .before .before .before .before .before .before .before .before .before .before .args .longer .now))
+again-requires c κs = let longer = start c .args .longer .now in omega (arith, length-take (length longer - 1) longer)
 
 returns-3 : tie.Need-returns-3
 returns-3 c = search needs

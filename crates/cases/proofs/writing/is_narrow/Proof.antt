@@ -27,8 +27,17 @@ enum-known-refusal c = search needs
 number-requires : tie.Need-number-requires
 number-requires c κs = search needs
 
+-- the array before the call, and the entry
+abbrev made : tie.After-write → tie.After-marked
+made c = c .before .before
+
+abbrev start : tie.After-marked → tie.Start
+start c = c .before
+
 slice-aggregate-is-marked : tie.Need-slice-aggregate-is-marked
-slice-aggregate-is-marked c = let w = c .before .before .before .before .before .before .before .write in c .before .before .before .before .before .before .before .before .before .marked .ensures ∙ sym (length-front (c .before .before .before .before .before .before .before .before .before .marked .result) (w .last .1 .1 .1 .0) (c .before .before .before .before .before .before .before .before .before .before .before .args .size) (w .kept .1 .1 .1 .0))
+slice-aggregate-is-marked c =
+    let w = c .before .before .before .before .before .before .before in
+    made w .marked .ensures ∙ sym (length-front (made w .marked .result) (w .write .last .1 .1 .1 .0) (start (made w) .args .size) (w .write .kept .1 .1 .1 .0))
 
 is-marked-requires : tie.Need-is-marked-requires
 is-marked-requires c κs = search needs

@@ -30,15 +30,31 @@ write-requires c κs = search needs
 enum-known-place : tie.Need-enum-known-place
 enum-known-place c = search needs
 
+-- the call, the array before it, and the entry
+abbrev written : tie.After-space3 → tie.After-write
+written c = c .before .before .before .before .before .before
+
+abbrev made : tie.After-write → tie.After-marked
+made c = c .before .before
+
+abbrev start : tie.After-marked → tie.Start
+start c = c .before .before
+
 -- the array has its length after the call too
-room : (c : tie.After-space3) → 2053 ≡ length (c .before .before .before .before .before .before .write .last .1 .1 .1 .0 ++ drop (3 + length (c .before .before .before .before .before .before .before .before .before .before .before .args .msg .now) + 2) (c .before .before .before .before .before .before .before .before .marked .result))
-room c = let w = c .before .before .before .before .before .before .write in c .before .before .before .before .before .before .before .before .marked .ensures ∙ sym (length-front (c .before .before .before .before .before .before .before .before .marked .result) (w .last .1 .1 .1 .0) (3 + length (c .before .before .before .before .before .before .before .before .before .before .before .args .msg .now) + 2) (w .kept .1 .1 .1 .0))
+room : (c : tie.After-space3) →
+    let w = written c in
+    let size = 3 + length (start (made w) .args .msg .now) + 2 in
+    2053 ≡ length (w .write .last .1 .1 .1 .0 ++ drop size (made w .marked .result))
+room c =
+    let w = written c in
+    let size = 3 + length (start (made w) .args .msg .now) + 2 in
+    made w .marked .ensures ∙ sym (length-front (made w .marked .result) (w .write .last .1 .1 .1 .0) size (w .write .kept .1 .1 .1 .0))
 
 slice-aggregate-holds : tie.Need-slice-aggregate-holds
 slice-aggregate-holds c = room c
 
 holds-requires : tie.Need-holds-requires
-holds-requires c κs = omega (arith, room c, c .before .before .before .before .before .before .before .before .before .before .before .pre)
+holds-requires c κs = omega (arith, room c, start (made (written c)) .pre)
 
 enum-told : tie.Need-enum-told
 enum-told c = search needs

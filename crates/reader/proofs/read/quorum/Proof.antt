@@ -40,6 +40,37 @@ answered : (c : Config) (l : Ledger) (m : ℕ) → mapOf c m ≡ true → decide
 unfolding quorumAnswer
 answered c l m e = simp e
 
+-- each step from the one after it: the entry, the test of the cluster, the scan; and what they told
+
+abbrev start : tie.Else1 → tie.Start
+start c = c .before .before .before
+
+abbrev tested : tie.After-scan → tie.Else1
+tested c = c .before .before .before
+
+abbrev scanned : tie.Else2 → tie.After-scan
+scanned c = c .before .before .before
+
+abbrev of-map : tie.Else3 → tie.Else2
+of-map c = c .before .before
+
+abbrev mapped : tie.After-is-quorum → tie.Else3
+mapped c = c .before .before .before
+
+abbrev stopped : tie.Then2 → tie.After-scan
+stopped c = c .before .before .before
+
+valid : (c : tie.Else1) → validOf (start c .args .config) ≡ true
+valid c = sym (c .before .valid .ensures) ∙ not-false _ (c .if1 .left)
+
+-- the check gives the number that was found
+number : (c : tie.After-scan) → check (start (tested c) .args .config) (start (tested c) .args .msg .now) ≡ c .scan .result
+number c = check-found _ _ _ (valid (tested c)) (c .scan .ensures .0)
+
+-- and here it is 0
+passed : (c : tie.Else2) → check (start (tested (scanned c)) .args .config) (start (tested (scanned c)) .args .msg .now) ≡ 0
+passed c = number (scanned c) ∙ c .if2 .left
+
 valid-requires : tie.Need-valid-requires
 valid-requires c κs = search needs
 
@@ -48,9 +79,6 @@ returns c =
     let a = c .before .before .before .args in
     let out : validOf (a .config) ≡ false = sym (c .before .valid .ensures) ∙ not-true _ (c .if1 .taken) in
     quorum-refused (a .config) (a .map) (a .msg .now) 1 (check-invalid _ _ out) (λ e. omega arith)
-
-valid : (c : tie.Else1) → validOf (c .before .before .before .args .config) ≡ true
-valid c = sym (c .before .valid .ensures) ∙ not-false _ (c .if1 .left)
 
 slice-aggregate-scan : tie.Need-slice-aggregate-scan
 slice-aggregate-scan c = search needs
@@ -61,32 +89,29 @@ slice-aggregate-scan-2 c = search needs
 scan-requires : tie.Need-scan-requires
 scan-requires c κs = (valid (c .before .before), refl, refl)
 
--- the check gives the number that was found
-number : (c : tie.After-scan) → check (c .before .before .before .before .before .before .args .config) (c .before .before .before .before .before .before .args .msg .now) ≡ c .scan .result
-number c = check-found _ _ _ (valid (c .before .before .before)) (c .scan .ensures .0)
-
 of-requires : tie.Need-of-requires
 of-requires c κs = search needs
 
 returns-2 : tie.Need-returns-2
 returns-2 c =
-    let scanned = c .before .before .before .before in
-    ap Decision.Refused (c .of .ensures) ∙ quorum-refused _ _ _ _ (number scanned) (c .before .if2 .taken)
+    ap Decision.Refused (c .of .ensures) ∙ quorum-refused _ _ _ _ (number (stopped (c .before))) (c .before .if2 .taken)
 
 cast-n : tie.Need-cast-n
-cast-n c = omega (arith, valid-bounds _ (valid (c .before .before .before .before .before .before .before)) .most)
+cast-n c = omega (arith, valid-bounds _ (valid (tested (scanned (c .before)))) .most)
 
 cast-if3 : tie.Need-cast-if3
 cast-if3 c = search needs
 
 shr-if3 : tie.Need-shr-if3
-shr-if3 c = omega (arith, valid-bounds _ (valid (c .before .before .before .before .before .before .before)) .most)
+shr-if3 c = omega (arith, valid-bounds _ (valid (tested (scanned (c .before)))) .most)
 
 returns-3 : tie.Need-returns-3
 returns-3 c =
-    let a = c .before .before .before .before .before .before .before .before .before .before .before .args in
-    let out : mapOf (a .config) (a .map) ≡ false = map-is _ _ (valid (c .before .before .before .before .before .before .before .before)) ∙ ne-eqb (a .map / 2 ^ a .config .n) 0 (c .if3 .taken) in
-    refused _ _ _ out ∙ quorum-accepted _ _ _ (number (c .before .before .before .before .before) ∙ c .before .before .if2 .left)
+    let found = c .before .before in
+    let cluster = tested (scanned found) in
+    let a = start cluster .args in
+    let out : mapOf (a .config) (a .map) ≡ false = map-is _ _ (valid cluster) ∙ ne-eqb (a .map / 2 ^ a .config .n) 0 (c .if3 .taken) in
+    refused _ _ _ out ∙ quorum-accepted _ _ _ (passed found)
 
 slice-aggregate-is-quorum : tie.Need-slice-aggregate-is-quorum
 slice-aggregate-is-quorum c = search needs
@@ -96,18 +121,23 @@ slice-aggregate-is-quorum-2 c = search needs
 
 is-quorum-requires : tie.Need-is-quorum-requires
 is-quorum-requires c κs =
-    let sums = c .before .before .before .before .before .before .before .scan .ensures in
-    (valid (c .before .before .before .before .before .before .before .before .before .before), received-small _ _ (sums .1), given-small _ _ (sums .2))
+    let found = scanned (of-map (c .before .before)) in
+    let sums = found .scan .ensures in
+    (valid (tested found), received-small _ _ (sums .1), given-small _ _ (sums .2))
 
 -- the answer is the test's
-decided : (c : tie.After-is-quorum) → decide (c .is-quorum .result) ≡ quorumIn (c .before .before .before .before .before .before .before .before .before .before .before .before .before .before .args .config) (c .before .before .before .before .before .before .before .before .before .before .before .before .before .before .args .map) (c .before .before .before .before .before .before .before .before .before .before .before .before .before .before .args .msg .now)
+decided : (c : tie.After-is-quorum) →
+    let a = start (tested (scanned (of-map (mapped c)))) .args in
+    decide (c .is-quorum .result) ≡ quorumIn (a .config) (a .map) (a .msg .now)
 decided c =
-    let a = c .before .before .before .before .before .before .before .before .before .before .before .before .before .before .args in
-    let sums = c .before .before .before .before .before .before .before .before .scan .ensures in
-    let inside : mapOf (a .config) (a .map) ≡ true = map-is _ _ (valid (c .before .before .before .before .before .before .before .before .before .before .before)) ∙ eq-eqb (a .map / 2 ^ a .config .n) 0 (c .before .before .before .if3 .left) in
-    let quorum-is : c .is-quorum .result ≡ quorumOf (a .config) (scanOf (a .config) (a .msg .now) .header .ledger) (a .map) =
-    c .is-quorum .ensures ∙ ap₂ (λ r g. quorum (a .config .n) (accountsIn (a .config) r g) (named (a .map))) (sums .1) (sums .2) ∙ sums-quorum _ _ _ (valid (c .before .before .before .before .before .before .before .before .before .before .before)) in
-    ap decide quorum-is ∙ answered _ _ _ inside ∙ quorum-accepted _ _ _ (number (c .before .before .before .before .before .before .before .before) ∙ c .before .before .before .before .before .if2 .left)
+    let found = of-map (mapped c) in
+    let cluster = tested (scanned found) in
+    let a = start cluster .args in
+    let sums = scanned found .scan .ensures in
+    let inside : mapOf (a .config) (a .map) ≡ true = map-is _ _ (valid cluster) ∙ eq-eqb (a .map / 2 ^ a .config .n) 0 (mapped c .if3 .left) in
+    let quorum-is : c .is-quorum .result ≡ quorumOf (a .config) (scanOf (a .config) (a .msg .now) .ledger) (a .map) =
+    c .is-quorum .ensures ∙ ap₂ (λ r g. quorum (a .config .n) (accountsIn (a .config) r g) (named (a .map))) (sums .1) (sums .2) ∙ sums-quorum _ _ _ (valid cluster) in
+    ap decide quorum-is ∙ answered _ _ _ inside ∙ quorum-accepted _ _ _ (passed found)
 
 returns-4 : tie.Need-returns-4
 returns-4 c = ap decide (sym (c .if4 .taken)) ∙ decided (c .before)

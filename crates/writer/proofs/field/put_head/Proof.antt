@@ -19,16 +19,16 @@ abbrev map-bytes : tie.Start → List ℕ
 map-bytes s = number 1 2 (s .args .map)
 
 abbrev kind-bytes : tie.Start → List ℕ
-kind-bytes s = number 1 1 (s .args .header .kind)
+kind-bytes s = number 1 1 (s .args .envelope .kind)
 
 abbrev server-bytes : tie.Start → List ℕ
-server-bytes s = number 1 1 (s .args .header .server)
+server-bytes s = number 1 1 (s .args .envelope .server)
 
 abbrev desk-bytes : tie.Start → List ℕ
-desk-bytes s = number (s .args .header .desk) 2 (s .args .header .desk)
+desk-bytes s = number (s .args .envelope .desk) 2 (s .args .envelope .desk)
 
 abbrev round-bytes : tie.Start → List ℕ
-round-bytes s = number (s .args .header .round) 4 (s .args .header .round)
+round-bytes s = number (s .args .envelope .round) 4 (s .args .envelope .round)
 
 abbrev to-kind : tie.Start → List ℕ
 to-kind s = map-bytes s ++ kind-bytes s

@@ -1,21 +1,35 @@
 -- `put_register` meets its contract: stamp, desk, length, value, one after the other.
 use Prim.Native.Nat.{ℕ, _+_, _≤_}
-use mathlib.Core.Path.{_≡_, ap, _∙_}
+use native.Mathlib.Omega.{arith}
+use mathlib.Core.Path.{_≡_, sym, ap, _∙_}
 use mathlib.Core.List.{List, _++_}
 use borrow.Author.Needs.{needs}
 use denote.Ref.{now}
-use lib.ListN.{length}
+use lib.ListN.{length, take}
+use lib.Seq.{length-take-le}
 use Rattle.config.specs.Cluster.{stampBytes}
 use Rattle.format.specs.Bytes.{number}
 use Rattle.format.specs.Table.{register}
+use Rattle.replica.specs.declared.register.Register.{Register}
+use Rattle.replica.specs.Values.{bytesOf}
+use Rattle.replica.specs.Registers.{Typed as TypedRegister}
+use Rattle.replica.proofs.Values.{lent-bytes}
+use Rattle.replica.proofs.Ranges.{register-is-typed}
 use Rattle.message.specs.Answers.{over}
 use Rattle.writer.proofs.Overs.{Written, back, room-first, written-place, written-fits, written-lent, written-next}
 use Rattle.writer.proofs.Messages.{register-written}
 use Rattle.writer.proofs.field.put_register.Statement.{statement}
 use Rattle.writer.proofs.field.put_register.Tie as tie
 
+-- the register, whose bytes are lent out of the argument
+abbrev held : tie.Start → Register
+held s = s .args .t3
+
+typed : (s : tie.Start) → TypedRegister (held s)
+typed s = register-is-typed (held s) _ (s .good .1 .1 .0)
+
 abbrev mark : tie.Start → ℕ
-mark s = s .args .tag .stamp + s .args .tag .desk + length (now (s .args .value))
+mark s = held s .stamp + held s .desk + held s .value .length
 
 -- the buffer at entry, the fields in order, and the bytes up to each
 
@@ -23,16 +37,16 @@ abbrev entry : tie.Start → List ℕ
 entry s = now (s .args .out)
 
 abbrev stamp-bytes : tie.Start → List ℕ
-stamp-bytes s = number (mark s) (stampBytes (s .args .config)) (s .args .tag .stamp)
+stamp-bytes s = number (mark s) (stampBytes (s .args .config)) (held s .stamp)
 
 abbrev desk-bytes : tie.Start → List ℕ
-desk-bytes s = number (mark s) 2 (s .args .tag .desk)
+desk-bytes s = number (mark s) 2 (held s .desk)
 
 abbrev length-bytes : tie.Start → List ℕ
-length-bytes s = number (mark s) 1 (length (now (s .args .value)))
+length-bytes s = number (mark s) 1 (held s .value .length)
 
 abbrev value-bytes : tie.Start → List ℕ
-value-bytes s = now (s .args .value)
+value-bytes s = take (held s .value .length) (held s .value .bytes)
 
 abbrev to-desk : tie.Start → List ℕ
 to-desk s = stamp-bytes s ++ desk-bytes s
@@ -43,10 +57,17 @@ to-length s = to-desk s ++ length-bytes s
 abbrev to-value : tie.Start → List ℕ
 to-value s = to-length s ++ value-bytes s
 
+value-size : (s : tie.Start) → held s .value .length ≡ length (value-bytes s)
+value-size s = sym (length-take-le _ _ (omega (arith, typed s .value-typed .bytes-length, s .pre .0)))
+
 -- there is room for each
 
-whole : (s : tie.Start) → to-value s ≡ register (s .args .config) (s .args .tag .stamp) (s .args .tag .desk) (now (s .args .value))
-whole s = register-written (s .args .config) (s .args .tag .stamp) (s .args .tag .desk) (now (s .args .value)) (s .pre .0)
+whole : (s : tie.Start) →
+    let g = held s in
+    to-value s ≡ register (s .args .config) (g .stamp) (g .desk) (bytesOf (g .value))
+whole s =
+    let g = held s in
+    rw (lent-bytes (g .value) (typed s .value-typed) (s .pre .0)) (register-written (s .args .config) (g .stamp) (g .desk) (g .value) (s .pre .0))
 
 room-value : (s : tie.Start) → length (to-value s) ≤ length (entry s)
 room-value s = rw (whole s) (s .pre .1)
@@ -63,7 +84,7 @@ room-stamp s = room-first (stamp-bytes s) (desk-bytes s) (entry s) (room-desk s)
 -- after each call: the call before, the function's entry, the buffer and the place, and that so much is written
 
 abbrev start-stamp : tie.After-put-number → tie.Start
-start-stamp c = c .before .before .before .before .before .before .before
+start-stamp c = c .before .before .before .before
 
 written-stamp : (c : tie.After-put-number) → Written (stamp-bytes (start-stamp c)) (entry (start-stamp c)) (c .put-number .last .0) (c .put-number .result)
 written-stamp c =
@@ -101,7 +122,7 @@ written-length : (c : tie.After-put-number3) → Written (to-length (start-lengt
 written-length c = written-next (written-desk (prev-length c)) (length-bytes (start-length c)) _ _ (room-length (start-length c)) (c .put-number3 .ensures .0) (c .put-number3 .ensures .1)
 
 abbrev prev-value : tie.After-put-value → tie.After-put-number3
-prev-value c = c .before .before .before .before
+prev-value c = c .before .before .before .before .before .before .before
 
 abbrev start-value : tie.After-put-value → tie.Start
 start-value c = start-length (prev-value c)
@@ -113,7 +134,10 @@ abbrev at-value : tie.After-put-value → ℕ
 at-value c = at-length (prev-value c) + c .put-value .result
 
 written-value : (c : tie.After-put-value) → Written (to-value (start-value c)) (entry (start-value c)) (out-value c) (at-value c)
-written-value c = written-next (written-length (prev-value c)) (value-bytes (start-value c)) _ _ (room-value (start-value c)) (c .put-value .ensures .0) (c .put-value .ensures .1)
+written-value c = written-next (written-length (prev-value c)) (value-bytes (start-value c)) _ _ (room-value (start-value c)) (c .put-value .ensures .0) (c .put-value .ensures .1 ∙ value-size (start-value c))
+
+cast-length : tie.Need-cast-length
+cast-length c = search needs
 
 cast-stamp : tie.Need-cast-stamp
 cast-stamp c = search needs
@@ -131,7 +155,7 @@ stamp-bytes-requires : tie.Need-stamp-bytes-requires
 stamp-bytes-requires c κs = search needs
 
 put-number-requires : tie.Need-put-number-requires
-put-number-requires c κs = rw (c .before .stamp-bytes .ensures) (room-stamp (c .before .before .before .before .before .before))
+put-number-requires c κs = rw (c .before .stamp-bytes .ensures) (room-stamp (c .before .before .before))
 
 sub-put-number : tie.Need-sub-put-number
 sub-put-number c = written-place (written-stamp (c .before .before))
@@ -173,7 +197,12 @@ part-put-value-end : tie.Need-part-put-value-end
 part-put-value-end c = search needs
 
 put-value-requires : tie.Need-put-value-requires
-put-value-requires c κs = written-lent (written-length (c .before .before .before)) (value-bytes (start-length (c .before .before .before))) (room-value (start-length (c .before .before .before)))
+put-value-requires c κs =
+    let length-put = c .before .before .before .before .before .before in
+    let s = start-length length-put in (
+      omega (arith, typed s .value-typed .bytes-length, s .pre .0),
+      omega (arith, value-size s, written-lent (written-length length-put) (value-bytes s) (room-value s)),
+    )
 
 add-p-3 : tie.Need-add-p-3
 add-p-3 c = written-fits (written-value (c .before .before)) (start-value (c .before .before) .good .0 .0)
@@ -191,6 +220,7 @@ pub put-register-spec : {M : Type 1} → statement M
 put-register-spec =
     tie.close
     (tie.spec
+    cast-length
     cast-stamp
     cast-desk
     add-stands

@@ -10,6 +10,18 @@ use Rattle.writer.proofs.Outlines.{map-sum}
 use Rattle.writer.proofs.outline.measure.Statement.{statement}
 use Rattle.writer.proofs.outline.measure.Tie as tie
 
+-- a stamp has 4 bytes
+stamp : (c : tie.After-stamp-bytes) →
+    let rows = c .before .before .before in
+    (c .stamp-bytes .result ≡ 4) × ((c .stamp-bytes .result + 3) * rows .before .mark3 .result ≤ 7)
+unfolding stampBytes
+stamp c =
+    let rows = c .before .before .before in
+    (c .stamp-bytes .ensures, rw (c .stamp-bytes .ensures) (omega (arith, rows .before .mark3 .ensures .1)))
+
+cast-length : tie.Need-cast-length
+cast-length c = search needs
+
 cast-mark : tie.Need-cast-mark
 cast-mark c = search needs
 
@@ -91,11 +103,6 @@ add-t25 c = search needs
 stamp-bytes-requires : tie.Need-stamp-bytes-requires
 stamp-bytes-requires c κs = search needs
 
--- a stamp has 4 bytes
-stamp : (c : tie.After-stamp-bytes) → (c .stamp-bytes .result ≡ 4) × ((c .stamp-bytes .result + 3) * c .before .before .before .before .mark3 .result ≤ 7)
-unfolding stampBytes
-stamp c = (c .stamp-bytes .ensures, rw (c .stamp-bytes .ensures) (omega (arith, c .before .before .before .before .mark3 .ensures .1)))
-
 add-t27 : tie.Need-add-t27
 add-t27 c = omega (arith, stamp c)
 
@@ -126,12 +133,21 @@ add-t35 c = omega (arith, stamp c)
 returns : tie.Need-returns
 unfolding outlineOf sizeOf registerMark
 returns c =
-    (rw (map-sum, c .before .before .before .before .before .before .before .before .before .mark .ensures .0, c .before .before .before .before .before .before .before .mark2 .ensures .0, c .before .before .before .before .mark3 .ensures .0, c .before .before .before .mark4 .ensures .0, c .before .mark5 .ensures .0, c .stamp-bytes .ensures), omega arith, omega (arith, stamp c))
+    let note = c .before in
+    let rows = note .before .before in
+    let register = rows .before in
+    let round = register .before .before .before in
+    let desk = round .before .before in (
+      rw (map-sum, desk .mark .ensures .0, round .mark2 .ensures .0, register .mark3 .ensures .0, rows .mark4 .ensures .0, note .mark5 .ensures .0, c .stamp-bytes .ensures),
+      omega arith,
+      omega (arith, stamp c),
+    )
 
 pub measure-spec : {M : Type 1} → statement M
 measure-spec =
     tie.close
     (tie.spec
+    cast-length
     cast-mark
     mark-requires
     cast-mark-2

@@ -1,11 +1,10 @@
--- `put_value` meets its contract: the first k bytes of the value are in the buffer.
+-- `put_value` meets its contract: the first k bytes are in the buffer.
 use Prim.Native.Nat.{_≤_, _-_}
-use mathlib.Core.Path.{_≡_, sym, _∙_}
+use mathlib.Core.Path.{_≡_, sym}
 use native.Mathlib.Omega.{arith}
 use lib.ListN.{length, take, length-set}
-use lib.Seq.{take-length}
-use denote.Ref.{now}
 use Rattle.message.specs.Answers.{over}
+use denote.Ref.{now}
 use borrow.Author.Needs.{needs}
 use Rattle.writer.proofs.Overs.{over-nothing}
 use Rattle.writer.proofs.Puts.{value-up}
@@ -13,13 +12,13 @@ use Rattle.writer.proofs.put.put_value.Statement.{statement}
 use Rattle.writer.proofs.put.put_value.Tie as tie
 
 abbrev Inv-loop : tie.InvT-loop
-Inv-loop out₀ value k₀ out k = (k ≤ length value) × (length value ≤ length out₀) × (length out ≡ length out₀) × (out ≡ over (take k value) out₀)
+Inv-loop out₀ bytes n k₀ out k = (k ≤ n) × (n ≤ length bytes) × (n ≤ length out₀) × (length out ≡ length out₀) × (out ≡ over (take k bytes) out₀)
 
 abbrev μ-loop : tie.MeasureT-loop
-μ-loop out₀ value k₀ out k = length value - k
+μ-loop out₀ bytes n k₀ out k = n - k
 
 loop-holds : tie.Need-loop-holds Inv-loop μ-loop
-loop-holds c = (omega arith, search needs, search needs, sym (over-nothing _))
+loop-holds c = (omega arith, search needs, search needs, search needs, sym (over-nothing _))
 
 shared-slice-read-out : tie.Need-shared-slice-read-out Inv-loop μ-loop
 shared-slice-read-out c = search needs
@@ -36,7 +35,9 @@ loop-less c = search needs
 loop-again : tie.Need-loop-again Inv-loop μ-loop
 loop-again c =
     let inv = c .before .before .loop .inv in
-    (omega arith, inv .1, simp length-set (inv .2), rw (inv .3) (value-up _ _ _ (c .before .loop-test .taken) (inv .1)))
+    let n = c .before .loop-test .taken in
+    let a = c .before .before .before .args in
+    (omega arith, inv .1, inv .2, simp length-set (inv .3), rw (inv .4) (value-up (c .before .before .loop .k) (now (a .bytes)) (now (a .out)) (omega (arith, n, inv .1)) (omega (arith, n, inv .2))))
 
 same-length : tie.Need-same-length Inv-loop μ-loop
 same-length c = search needs
@@ -44,7 +45,8 @@ same-length c = search needs
 returns : tie.Need-returns Inv-loop μ-loop
 returns c =
     let inv = c .before .loop .inv in
-    let e : c .before .loop .k ≡ length (now (c .before .before .args .value)) = omega arith in (inv .3 ∙ rw (e, take-length), e)
+    let e : c .before .loop .k ≡ c .before .before .args .length = omega arith in
+    (rw e at (inv .4), e)
 
 pub put-value-spec : {M : Type 1} → statement M
 put-value-spec =

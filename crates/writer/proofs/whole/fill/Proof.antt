@@ -8,8 +8,11 @@ use lib.ListN.{length, getD}
 use Rattle.ledger.proofs.Tables.{table-length}
 use Rattle.format.specs.Bytes.{number}
 use Rattle.format.specs.Table.{head, register, rows}
-use Rattle.message.specs.Headers.{encode}
+use Rattle.replica.specs.declared.replica.Replica.{Replica}
+use Rattle.replica.specs.Values.{bytesOf}
+use Rattle.message.specs.Envelopes.{messageOf}
 use Rattle.message.specs.Answers.{over}
+use Rattle.writer.specs.Outlines.{replicaIn}
 use Rattle.writer.proofs.Overs.{Written, back, room-first, written-place, written-fits, written-lent, written-next}
 use Rattle.writer.proofs.Messages.{message-written}
 use Rattle.writer.proofs.whole.fill.Statement.{statement}
@@ -20,11 +23,14 @@ use Rattle.writer.proofs.whole.fill.Tie as tie
 abbrev entry : tie.Start → List ℕ
 entry s = now (s .args .out)
 
+abbrev carrying : tie.Start → Replica
+carrying s = replicaIn (now (s .args .counts)) (now (s .args .cells)) (s .args .register)
+
 abbrev head-bytes : tie.Start → List ℕ
-head-bytes s = head (s .args .map) (s .args .header .kind) (s .args .header .server) (s .args .header .desk) (s .args .header .round)
+head-bytes s = head (s .args .map) (s .args .envelope .kind) (s .args .envelope .server) (s .args .envelope .desk) (s .args .envelope .round)
 
 abbrev register-bytes : tie.Start → List ℕ
-register-bytes s = register (s .args .config) (s .args .header .tag .stamp) (s .args .header .tag .desk) (now (s .args .value))
+register-bytes s = register (s .args .config) (s .args .register .stamp) (s .args .register .desk) (bytesOf (s .args .register .value))
 
 abbrev map-bytes : tie.Start → List ℕ
 map-bytes s = number (s .args .rows .map) 2 (s .args .rows .map)
@@ -33,7 +39,7 @@ abbrev rows-bytes : tie.Start → List ℕ
 rows-bytes s = rows (λ i. getD (now (s .args .counts)) i 0) (λ i j. getD (now (s .args .cells)) (i * 16 + j) 0)
 
 abbrev note-bytes : tie.Start → List ℕ
-note-bytes s = number (s .args .header .note) 4 (s .args .header .note)
+note-bytes s = number (s .args .envelope .note) 4 (s .args .envelope .note)
 
 abbrev to-register : tie.Start → List ℕ
 to-register s = head-bytes s ++ register-bytes s
@@ -49,11 +55,11 @@ to-note s = to-rows s ++ note-bytes s
 
 -- there is room for each
 
-whole : (s : tie.Start) → to-note s ≡ encode (s .args .config) (s .args .header) (now (s .args .value))
-whole s = rw (s .pre .0, s .pre .1) (message-written (s .args .config) (s .args .header) (now (s .args .value)) (s .args .map) (s .args .rows .map) (s .pre .5) (s .pre .6))
+whole : (s : tie.Start) → to-note s ≡ messageOf (s .args .config) (s .args .envelope) (carrying s)
+whole s = message-written (s .args .config) (s .args .envelope) (carrying s) (s .args .map) (s .args .rows .map) (s .pre .3) (s .pre .4)
 
 room-note : (s : tie.Start) → length (to-note s) ≤ length (entry s)
-room-note s = rw (whole s) (s .pre .8)
+room-note s = rw (whole s) (s .pre .6)
 
 room-rows : (s : tie.Start) → length (to-rows s) ≤ length (entry s)
 room-rows s = room-first (to-rows s) (note-bytes s) (entry s) (room-note s)
@@ -70,7 +76,7 @@ room-head s = room-first (head-bytes s) (register-bytes s) (entry s) (room-regis
 -- after each call: the call before, the function's entry, the buffer and the place, and that so much is written
 
 abbrev start-head : tie.After-put-head → tie.Start
-start-head c = c .before .before .before .before .before .before .before .before .before
+start-head c = c .before .before .before .before .before .before .before
 
 written-head : (c : tie.After-put-head) → Written (head-bytes (start-head c)) (entry (start-head c)) (c .put-head .last .0) (c .put-head .result)
 written-head c = record { is-buffer = c .put-head .ensures .0; is-place = c .put-head .ensures .1; room = room-head (start-head c) }
@@ -139,7 +145,7 @@ cast-note : tie.Need-cast-note
 cast-note c = search needs
 
 put-head-requires : tie.Need-put-head-requires
-put-head-requires c κs = room-head (c .before .before .before .before .before .before .before .before)
+put-head-requires c κs = room-head (c .before .before .before .before .before .before)
 
 sub-put-register : tie.Need-sub-put-register
 sub-put-register c = written-place (written-head (c .before .before))
@@ -151,7 +157,7 @@ part-put-register-end : tie.Need-part-put-register-end
 part-put-register-end c = search needs
 
 put-register-requires : tie.Need-put-register-requires
-put-register-requires c κs = (start-head (c .before .before .before) .pre .4, written-lent (written-head (c .before .before .before)) (register-bytes (start-head (c .before .before .before))) (room-register (start-head (c .before .before .before))))
+put-register-requires c κs = (start-head (c .before .before .before) .pre .2, written-lent (written-head (c .before .before .before)) (register-bytes (start-head (c .before .before .before))) (room-register (start-head (c .before .before .before))))
 
 add-p : tie.Need-add-p
 add-p c = written-fits (written-register (c .before .before)) (start-register (c .before .before) .good .0 .0)
@@ -181,13 +187,13 @@ part-put-rows-end : tie.Need-part-put-rows-end
 part-put-rows-end c = search needs
 
 slice-aggregate-put-rows : tie.Need-slice-aggregate-put-rows
-slice-aggregate-put-rows c = sym (ap length (start-map (c .before .before .before .before) .pre .7) ∙ table-length 16 _)
+slice-aggregate-put-rows c = sym (ap length (start-map (c .before .before .before .before) .pre .5) ∙ table-length 16 _)
 
 put-rows-requires : tie.Need-put-rows-requires
 put-rows-requires c κs =
     let w = written-map (c .before .before .before .before) in
     let s = start-map (c .before .before .before .before) in
-    (s .pre .2, s .pre .3, rw (s .pre .1) (s .pre .7), written-lent w (rows-bytes s) (room-rows s))
+    (s .pre .0, s .pre .1, s .pre .5, written-lent w (rows-bytes s) (room-rows s))
 
 add-p-3 : tie.Need-add-p-3
 add-p-3 c = written-fits (written-rows (c .before .before)) (start-rows (c .before .before) .good .0 .0)

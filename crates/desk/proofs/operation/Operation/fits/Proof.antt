@@ -6,7 +6,9 @@ use borrow.Author.Needs.{needs}
 use borrow.Author.Tests.{le-leb, lt-leb, not-true, not-false}
 use lib.Dec.{leb}
 use Rattle.ledger.specs.Maps.{mapOf}
-use Rattle.replica.specs.Registers.{fits as fitsRegister}
+use Rattle.config.specs.declared.cluster.Config.{Config}
+use Rattle.replica.specs.Values.{valueFits}
+use Rattle.replica.specs.Registers.{registerFits}
 use Rattle.desk.specs.declared.operation.Operation.{Operation}
 use Rattle.desk.specs.Operations.{modeLawful, kindLawful, phaseLawful, fits}
 use Rattle.desk.proofs.operation.Operation.fits.Statement.{statement}
@@ -39,11 +41,11 @@ answered-in : (c : tie.Else4) → mapOf (of-answered c .args .config) (of-answer
 answered-in c = sym (c .before .within .ensures) ∙ not-false _ (c .if4 .left)
 
 -- what is left to test after the map of the servers that answered
-abbrev rest : ℕ → Operation → Bool
-rest round o = cond (leb (o .restarts) round) (cond (leb (o .value .length) 64) (fitsRegister (o .chosen)) false) false
+abbrev rest : Config → ℕ → Operation → Bool
+rest c round o = cond (leb (o .restarts) round) (cond (valueFits (o .value)) (registerFits c (o .chosen)) false) false
 
 left : (c : tie.Else4)
-    → rest (of-answered c .args .round) (of-answered c .args .self) ≡ fits (of-answered c .args .config) (of-answered c .args .round) (of-answered c .args .self)
+    → rest (of-answered c .args .config) (of-answered c .args .round) (of-answered c .args .self) ≡ fits (of-answered c .args .config) (of-answered c .args .round) (of-answered c .args .self)
 unfolding fits
 left c =
     let phase = c .before .before in
@@ -86,19 +88,22 @@ returns-4 c =
 returns-5 : tie.Need-returns-5
 returns-5 c = rw (← left (c .before .before), lt-leb _ _ (c .if5 .taken))
 
-returns-6 : tie.Need-returns-6
-returns-6 c =
-    let restarts = c .before .before .before in
-    rw (← left (restarts .before .before), le-leb _ _ (restarts .if5 .left), lt-leb _ _ (c .if6 .taken))
-
 fits-requires : tie.Need-fits-requires
 fits-requires c κs = search needs
 
+returns-6 : tie.Need-returns-6
+returns-6 c =
+    let restarts = c .before .before .before in
+    rw (← left (restarts .before .before), le-leb _ _ (restarts .if5 .left), sym (c .before .fits2 .ensures) ∙ not-true _ (c .if6 .taken))
+
+fits-requires-2 : tie.Need-fits-requires-2
+fits-requires-2 c κs = search needs
+
 returns-7 : tie.Need-returns-7
 returns-7 c =
-    let length = c .before .before in
-    let restarts = length .before .before .before in
-    rw (← left (restarts .before .before), le-leb _ _ (restarts .if5 .left), le-leb _ _ (length .if6 .left)) (c .fits2 .ensures)
+    let value = c .before .before in
+    let restarts = value .before .before .before in
+    rw (← left (restarts .before .before), le-leb _ _ (restarts .if5 .left), sym (value .before .fits2 .ensures) ∙ not-false _ (value .if6 .left)) (c .fits3 .ensures)
 
 pub fits-spec : {M : Type 1} → statement M
 fits-spec =
@@ -113,6 +118,7 @@ fits-spec =
     within-requires
     returns-4
     returns-5
-    returns-6
     fits-requires
+    returns-6
+    fits-requires-2
     returns-7)

@@ -5,9 +5,9 @@ use mathlib.Core.Bool.{true}
 use borrow.Author.Needs.{needs}
 use borrow.Author.Tests.{eq-eqb, ne-eqb, lt-ltb, le-ltb, not-true, not-false}
 use denote.Ref.{now}
-use lib.ListN.{length}
-use Rattle.replica.specs.Envelopes.{sendAnswer, place, Typed as TypedEnvelope}
-use Rattle.replica.proofs.Envelopes.{send-placed}
+use Rattle.message.specs.Envelopes.{Typed as TypedEnvelope}
+use Rattle.message.specs.Answers.{Written, place}
+use Rattle.message.proofs.Envelopes.{write-placed}
 use Rattle.desk.specs.declared.record.Desk.{Desk}
 use Rattle.desk.specs.Desks.{fits, Typed}
 use Rattle.desk.specs.Asks.{askOf, requestEnvelope, requestMessage}
@@ -31,6 +31,12 @@ mode-test c = c .before .before .before
 
 abbrev record-test : tie.Else3 → tie.Else1
 record-test c = c .before .before .before .before .before .before
+
+abbrev tested : tie.After-write → tie.Else3
+tested c = c .before .before .before .before
+
+abbrev untold : tie.Then3 → tie.Else1
+untold c = c .before .before .before .before .before .before
 
 abbrev desk : tie.Else3 → Desk
 desk c = entry c .args .self
@@ -65,7 +71,7 @@ returns-2 c =
 returns-3 : tie.Need-returns-3
 unfolding askOf
 returns-3 c =
-    let s = sound (c .before .before .before .before .before .before) in
+    let s = sound (untold c) in
     let m = eq-eqb _ _ (c .before .before .before .if2 .left) in
     let e = le-ltb _ _ (c .if3 .taken) in
     (simp (s, m, e), simp (s, m, e))
@@ -76,26 +82,25 @@ cast-t14 c = omega (arith, envelope-typed (c .before) .server-fits)
 cast-t15 : tie.Need-cast-t15
 cast-t15 c = omega (arith, envelope-typed (c .before .before) .desk-fits)
 
-send-requires : tie.Need-send-requires
-send-requires c κs = search needs
+write-requires : tie.Need-write-requires
+write-requires c κs = search needs
 
 same-length : tie.Need-same-length
 same-length c = search needs
 
 returns-4 : tie.Need-returns-4
 returns-4 c =
-    let test = c .before .before .before .before .before .before in
+    let test = tested (c .before .before) in
     let x = desk test in
     let a = entry test .args in
     let s = sound (record-test test) in
     let good = request-lawful x (a .server) s (mode-test test .if2 .left) (test .if3 .left) in
     let placed =
-    send-placed (x .config) (requestEnvelope x (a .server)) (x .replica)
+    write-placed (x .config) (requestEnvelope x (a .server)) (x .replica)
     (envelope-typed test) (typed test .replica-typed) good (fits-told x s .replica-fits) (now (a .out)) (a .at) in
-    let sent = c .before .before .send .ensures in
-    let request : c .before .before .send .result ≡ sendAnswer (x .config) (requestEnvelope x (a .server)) (x .replica) (length (now (a .out))) (a .at) =
-    sent .0 in
-    (request ∙ placed .0 ∙ sym (ap (λ w. w .answer) (asked test)), sent .1 ∙ placed .1 ∙ sym (ap (λ w. w .out) (asked test)))
+    let sent = c .before .before .write .ensures in
+    let request = placed ∙ sym (asked test) in
+    (sent .0 ∙ ap (λ (w : Written). w .answer) request, sent .1 ∙ ap (λ (w : Written). w .out) request)
 
 pub ask-spec : {M : Type 1} → statement M
 ask-spec =
@@ -107,6 +112,6 @@ ask-spec =
     returns-3
     cast-t14
     cast-t15
-    send-requires
+    write-requires
     same-length
     returns-4)

@@ -1,8 +1,9 @@
 -- `begin_read` meets its contract: the empty value is that of no bytes.
 use mathlib.Core.Path.{sym, ap, _∙_}
+use mathlib.Core.List.{[]}
 use borrow.Author.Needs.{needs}
 use borrow.Author.Tests.{not-true, not-false}
-use Rattle.replica.proofs.Values.{value-of-none}
+use Rattle.replica.proofs.Values.{value-of-none, value-fits}
 use Rattle.desk.specs.Begins.{startOf, beginOf}
 use Rattle.desk.proofs.record.Desk.begin_read.Statement.{statement}
 use Rattle.desk.proofs.record.Desk.begin_read.Tie as tie
@@ -28,7 +29,7 @@ unfolding beginOf
 returns-2 c =
     let a = c .before .before .before .before .args in
     let empty-is = c .before .empty .ensures ∙ sym value-of-none in
-    simp (sym (c .before .before .before .fits2 .ensures) ∙ not-false _ (c .before .before .if1 .left))
+    simp (sym (c .before .before .before .fits2 .ensures) ∙ not-false _ (c .before .before .if1 .left), value-fits [])
     (c .start .ensures ∙ ap (λ v. startOf (a .self) 1 v (a .note)) empty-is)
 
 pub begin-read-spec : {M : Type 1} → statement M

@@ -58,8 +58,8 @@ loop-again c =
       λ m l b. getD-set-other (turn .bytes) (turn .k) m (getD part (turn .k) 0) 0 (λ e. omega arith) ∙ turn .inv .3 m (omega arith) b,
     )
 
-cast-t11 : tie.Need-cast-t11 Inv-loop μ-loop
-cast-t11 c = search needs
+told-requires : tie.Need-told-requires Inv-loop μ-loop
+told-requires c κs = search needs
 
 -- the array at the end: past the last byte of the slice both have 0
 filled : (c : tie.After-loop Inv-loop μ-loop) (m : ℕ) → m < 64 → getD (c .before .loop .bytes) m 0 ≡ getD (now (c .before .before .before .before .args .part)) m 0
@@ -72,7 +72,7 @@ filled c m l =
 
 returns : tie.Need-returns Inv-loop μ-loop
 unfolding valueOf
-returns c = ap₂ made (c .before .before .short .ensures .0) (is-table 64 _ _ (c .before .loop .inv .1) (filled c))
+returns c = ap₂ made (c .told .ensures) (is-table 64 _ _ (c .before .before .loop .inv .1) (filled (c .before)))
 
 pub of-spec : {M : Type 1} → statement M
 of-spec =
@@ -87,5 +87,5 @@ of-spec =
     add-k
     loop-less
     loop-again
-    cast-t11
+    told-requires
     returns)

@@ -1,14 +1,21 @@
 -- `trimmed` meets its contract: the first bytes are lent to `of`.
 use native.Mathlib.Omega.{arith}
-use mathlib.Core.Path.{sym, ap, _∙_}
+use Prim.Native.Nat.{min}
+use mathlib.Core.Path.{_≡_, sym, ap, _∙_}
 use borrow.Author.Needs.{needs}
 use lib.ListN.{take}
 use lib.Seq.{length-take-le}
+use Rattle.replica.specs.declared.value.Value.{Value}
 use Rattle.replica.specs.Values.{Typed, valueOf, trimmed}
 use Rattle.replica.proofs.Ranges.{value-is-typed}
-use Rattle.replica.proofs.Values.{short-bytes}
+use Rattle.replica.proofs.Values.{trimmed-lent}
 use Rattle.replica.proofs.value.Value.trimmed.Statement.{statement}
 use Rattle.replica.proofs.value.Value.trimmed.Tie as tie
+
+-- the array that `of` makes of the first bytes
+bytes-kept : (v : Value) → Typed v → valueOf (take (min (v .length) 64) (v .bytes)) .bytes ≡ trimmed v .bytes
+unfolding valueOf
+bytes-kept v t = trimmed-lent v t
 
 -- the array has 64 bytes
 typed : (c : tie.Start) → Typed (c .args .self)
@@ -32,10 +39,12 @@ of-requires c κs = search needs
 returns : tie.Need-returns
 unfolding trimmed
 returns c =
-    let v = c .before .before .before .before .before .args .self in
-    c .of .ensures
-    ∙ ap (λ n. valueOf (take n (v .bytes))) (c .before .before .short .ensures .0)
-    ∙ ap valueOf (short-bytes v (typed (c .before .before .before .before .before)))
+    let start = c .before .before .before .before .before .before in
+    let v = start .args .self in
+    ap (λ l. record { length = v .length; bytes = l })
+    (ap (λ (x : Value). x .bytes) (c .before .of .ensures)
+    ∙ ap (λ n. valueOf (take n (v .bytes)) .bytes) (c .before .before .before .short .ensures .0)
+    ∙ bytes-kept v (typed start))
 
 pub trimmed-spec : {M : Type 1} → statement M
 trimmed-spec =

@@ -6,10 +6,10 @@ use borrow.Author.Needs.{needs}
 use borrow.Author.Tests.{not-true, not-false}
 use denote.Ref.{now}
 use Rattle.config.specs.declared.answer.Verdict.{Verdict}
-use Rattle.message.specs.Headers.{Bytes}
-use Rattle.replica.specs.declared.envelope.Received.{Received}
-use Rattle.replica.specs.Envelopes.{receiveOf}
-use Rattle.replica.proofs.Envelopes.{receive-told}
+use Rattle.message.specs.Envelopes.{Bytes}
+use Rattle.message.specs.declared.answer.Received.{Received}
+use Rattle.message.specs.Answers.{receiveOf}
+use Rattle.message.proofs.Envelopes.{receive-told}
 use Rattle.server.specs.Servers.{fits}
 use Rattle.server.proofs.Told.{refuse-told, serve-unfit, serve-taken, serve-untaken}
 use Rattle.server.proofs.record.Server.serve.Statement.{statement}

@@ -86,14 +86,24 @@ at-join c = after-join c .before .before .before
 abbrev asked : tie.Else2 → tie.Start
 asked c = joined-entry (after-join c)
 
+abbrev at-request : tie.After-write → tie.Else2
+at-request c = c .before .before
+
+-- the writer's call, from each of its answers
+abbrev at-end : tie.After-end → tie.After-write
+at-end c = c .before .before .before .before
+
+abbrev at-refusal : tie.After-r → tie.After-write
+at-refusal c = c .before .before .before .before
+
 replied : (c : tie.Else2) → eqb (asked c .args .envelope .kind) 3 ≡ false
 replied c = ne-eqb _ _ (c .if2 .left)
 
 cast-t21 : tie.Need-cast-t21
 cast-t21 c = omega (arith, server-small _ _ (fits-told _ (asked c .pre .0) .server-in))
 
-send-requires : tie.Need-send-requires
-send-requires c κs = search needs
+write-requires : tie.Need-write-requires
+write-requires c κs = search needs
 
 enum-known-end : tie.Need-enum-known-end
 enum-known-end c = search needs
@@ -109,9 +119,10 @@ same-length c = search needs
 
 returns-4 : tie.Need-returns-4
 returns-4 c =
-    let e : tie.Else2 = c .before .before .before .before .before .before .before in
+    let written = at-end (c .before) in
+    let e = at-request written in
     let s = asked e in
-    let sent = c .before .before .before .before .before .send .ensures in
+    let sent = written .write .ensures in
     reply-done (s .args .self) (s .args .envelope) (s .args .replica) (typed s) (s .pre .0) (s .pre .1) _ _ (stays (at-join e))
     (joins (after-join e) .0) (replied e) _ _ _ (joins (after-join e) .1) (sent .0) (sent .1) _ (c .before .end .given .1)
 
@@ -120,9 +131,10 @@ same-length-2 c = search needs
 
 returns-5 : tie.Need-returns-5
 returns-5 c =
-    let e : tie.Else2 = c .before .before .before .before .before .before .before .before in
+    let written = at-refusal (c .before .before) in
+    let e = at-request written in
     let s = asked e in
-    let sent = c .before .before .before .before .before .before .send .ensures in
+    let sent = written .write .ensures in
     let left =
     reply-left (s .args .self) (s .args .envelope) (s .args .replica) (typed s) (s .pre .0) (s .pre .1) _ _ (stays (at-join e))
     (joins (after-join e) .0) (replied e) _ _ _ (joins (after-join e) .1) (sent .0) (sent .1) _ (c .before .before .r .given .1) in
@@ -142,7 +154,7 @@ serve-fields-spec =
     returns-2
     returns-3
     cast-t21
-    send-requires
+    write-requires
     enum-known-end
     enum-known-r
     unserved-requires-3

@@ -1,11 +1,12 @@
 -- `share` meets its contract: a server that fits writes what the reader takes.
 use native.Mathlib.Omega.{arith}
-use mathlib.Core.Path.{_≡_, refl, sym, _∙_}
+use mathlib.Core.Path.{_≡_, refl, sym, ap, _∙_}
 use mathlib.Core.Bool.{true}
 use borrow.Author.Needs.{needs}
 use borrow.Author.Tests.{not-true, not-false}
 use denote.Ref.{now}
 use Rattle.config.proofs.Clusters.{server-small}
+use Rattle.message.specs.Answers.{Written}
 use Rattle.server.specs.Servers.{fits}
 use Rattle.server.specs.Shares.{shareOf}
 use Rattle.server.proofs.Ranges.{server-is-typed}
@@ -24,26 +25,29 @@ returns c = rw (sym (c .before .fits2 .ensures) ∙ not-true _ (c .if1 .taken)) 
 abbrev entry : tie.Else1 → tie.Start
 entry c = c .before .before .before
 
+abbrev tested : tie.After-write → tie.Else1
+tested c = c .before .before .before .before .before
+
 fitting : (c : tie.Else1) → fits (entry c .args .self) ≡ true
 fitting c = sym (c .before .fits2 .ensures) ∙ not-false _ (c .if1 .left)
 
 cast-t10 : tie.Need-cast-t10
 cast-t10 c = omega (arith, server-small _ _ (fits-told _ (fitting (c .before .before .before)) .server-in))
 
-send-requires : tie.Need-send-requires
-send-requires c κs = search needs
+write-requires : tie.Need-write-requires
+write-requires c κs = search needs
 
 same-length : tie.Need-same-length
 same-length c = search needs
 
 returns-2 : tie.Need-returns-2
 returns-2 c =
-    let at-test : tie.Else1 = c .before .before .before .before .before .before .before in
-    let s = entry at-test in
-    let told = share-sent (s .args .self) (server-is-typed (s .args .self) _ (s .good .0)) (fitting at-test) (now (s .args .out)) (s .args .at) in
-    let sent = c .before .before .send .ensures in
-    (sent .0 ∙ told .0, sent .1 ∙ told .1)
+    let written = c .before .before in
+    let s = entry (tested written) in
+    let told = share-sent (s .args .self) (server-is-typed (s .args .self) _ (s .good .0)) (fitting (tested written)) (now (s .args .out)) (s .args .at) in
+    let sent = written .write .ensures in
+    (sent .0 ∙ ap (λ (w : Written). w .answer) told, sent .1 ∙ ap (λ (w : Written). w .out) told)
 
 pub share-spec : {M : Type 1} → statement M
 share-spec =
-    tie.close (tie.spec fits-requires returns cast-t10 send-requires same-length returns-2)
+    tie.close (tie.spec fits-requires returns cast-t10 write-requires same-length returns-2)

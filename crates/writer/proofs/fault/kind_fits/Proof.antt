@@ -1,8 +1,8 @@
 -- `kind_fits` meets its contract, test by test.
 use borrow.Author.Tests.{eq-eqb, ne-eqb}
 use Rattle.message.specs.Faults.{kindFits}
-use Rattle.writer.proofs.header.kind_fits.Statement.{statement}
-use Rattle.writer.proofs.header.kind_fits.Tie as tie
+use Rattle.writer.proofs.fault.kind_fits.Statement.{statement}
+use Rattle.writer.proofs.fault.kind_fits.Tie as tie
 
 returns : tie.Need-returns
 unfolding kindFits

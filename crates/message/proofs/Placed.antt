@@ -11,8 +11,7 @@ use Rattle.config.specs.Refusals.{refusal}
 use Rattle.config.specs.declared.answer.Refusal.{Refusal}
 use Rattle.config.specs.declared.answer.Number.{Number}
 use Rattle.config.proofs.Clusters.{value-not-refused}
-use Rattle.message.specs.Answers.{fits as room, over}
-use Rattle.replica.specs.Envelopes.{Written, place, between}
+use Rattle.message.specs.Answers.{fits as room, over, Written, place, between}
 
 module _ (m out : List ℕ) (at : ℕ) where
   -- what `place` gives, by whether the message has room

@@ -1,8 +1,8 @@
-// The number that the reader would give for the bytes of a header and a value.
+// The number that the reader would give for the bytes of an envelope and a replica.
 use config::Config;
 use config::Verdict;
-use message::Header;
-use message::register_fits;
+use message::Envelope;
+use replica::Replica;
 ghost use mathlib.Core.Path.{_≡_};
 ghost use Rattle.message.specs.Faults.{kindFits, faultOf};
 
@@ -25,27 +25,27 @@ pub(crate) fn kind_fits(kind: u8, desk: u16, round: u32, note: u32) -> bool
     round != 0
 }
 
-pub(crate) fn fault(config: Config, header: Header, length: usize) -> u64
-    ensures { λ r. ⌜ r ≡ faultOf config header length ⌝ }
+pub(crate) fn fault(config: Config, envelope: Envelope, replica: Replica) -> u64
+    ensures { λ r. ⌜ r ≡ faultOf config envelope replica ⌝ }
 {
-    let tag = header.tag;
-    let ledger = header.ledger;
+    let register = replica.register;
+    let ledger = replica.ledger;
     if !config.valid() {
         return 1;
     }
-    if header.kind < 1 {
+    if envelope.kind < 1 {
         return 4;
     }
-    if 3 < header.kind {
+    if 3 < envelope.kind {
         return 4;
     }
-    if !kind_fits(header.kind, header.desk, header.round, header.note) {
+    if !kind_fits(envelope.kind, envelope.desk, envelope.round, envelope.note) {
         return 3;
     }
-    if config.n <= (header.server as u64) {
+    if config.n <= (envelope.server as u64) {
         return 4;
     }
-    if !register_fits(tag.stamp, tag.desk, length) {
+    if !register.fits(config) {
         return 4;
     }
     match ledger.check_bounds(config) {

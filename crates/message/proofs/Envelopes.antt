@@ -1,0 +1,129 @@
+-- Messages whole. A replica that fits travels with every lawful envelope: the reader takes the message, and finds both again, the value with zeros
+-- after its bytes. What a reader takes is a lawful envelope and a replica that fits, and writing them gives the bytes back; what it refuses says nothing.
+use Prim.Native.Nat.{ℕ, _≤_}
+use mathlib.Core.Path.{_≡_, refl, sym, ap, _∙_}
+use mathlib.Core.Bool.{Bool, true, false, cond}
+use mathlib.Core.List.{List, []}
+use borrow.Author.Tests.{eq-eqb, lt-ltb}
+use lib.Dec.{eqb, ltb}
+use lib.ListN.{length, length-take, drop}
+use native.Mathlib.Omega.{arith}
+use Rattle.quorums.proofs.Tests.{both}
+use Rattle.config.specs.declared.cluster.Config.{Config}
+use Rattle.config.specs.Refusals.{refusal}
+use Rattle.config.specs.declared.answer.Refusal.{Refusal}
+use Rattle.config.specs.declared.answer.Verdict.{Verdict}
+use Rattle.replica.specs.declared.replica.Replica.{Replica}
+use Rattle.ledger.specs.Tables.{run, table}
+use Rattle.replica.specs.Values.{bytesOf, emptyValue}
+use Rattle.replica.specs.Replicas.{freshReplica, fits, Typed as TypedReplica}
+use Rattle.replica.proofs.Values.{bytes-of-value}
+use Rattle.replica.proofs.Replicas.{fits-told, told-fits}
+use Rattle.message.specs.declared.envelope.Envelope.{Envelope}
+use Rattle.message.specs.declared.answer.Received.{Received}
+use Rattle.message.specs.Envelopes.{blankEnvelope, messageOf, trimmedReplica, Typed, Bytes}
+use Rattle.message.specs.Cursors.{within}
+use Rattle.message.specs.Scans.{scanOf}
+use Rattle.message.specs.Answers.{check, verdictOf, valuePart, acceptedOf, refusedOf, receiveOf, valueAnswer, place, writeOf}
+use Rattle.message.specs.Faults.{kindFits, lawful, faultOf, Passed}
+use Rattle.message.proofs.Faults.{fault-is-check}
+use Rattle.message.proofs.Found.{Taken, taken-told, received-found}
+use Rattle.message.proofs.Numbers.{accepted-check, refused-check, received-verdict}
+use Rattle.message.proofs.Parts.{value-short}
+use Rattle.message.proofs.Rounds.{message-again, received-typed}
+
+-- An envelope that is lawful: the kind is one and has the fields that stand, and the server is one of the cluster.
+pub record Lawful (c : Config) (e : Envelope) : Type 0 where
+  pub kind-good : within 1 3 (e .kind) ≡ true
+  pub fields-good : kindFits (e .kind) (e .desk) (e .round) (e .note) ≡ true
+  pub server-good : ltb (e .server) (c .n) ≡ true
+
+pub lawful-told : (c : Config) (e : Envelope) → lawful c e ≡ true → Lawful c e
+unfolding lawful
+lawful-told c e l =
+    let k = both (within 1 3 (e .kind)) _ l in
+    let f = both (kindFits (e .kind) (e .desk) (e .round) (e .note)) _ (k .1) in
+    record { kind-good = k .0; fields-good = f .0; server-good = f .1 }
+
+pub told-lawful : (c : Config) (e : Envelope) → Lawful c e → lawful c e ≡ true
+unfolding lawful
+told-lawful c e l = simp (l .kind-good, l .fields-good, l .server-good)
+
+-- ---- writing
+
+module _ (c : Config) (e : Envelope) (r : Replica) (t : Typed e) (s : TypedReplica r) (l : lawful c e ≡ true) (f : fits c r ≡ true) where
+  -- the reader takes the message
+  pub sent-check : check c (messageOf c e r) ≡ 0
+  unfolding faultOf
+  sent-check =
+      let k = lawful-told c e l in
+      let g = fits-told c r f in
+      fault-is-check c e r t s
+      ∙ simp (g .valid, k .kind-good, k .fields-good, k .server-good, g .register-fits, g .ledger-bounded, g .ledger-above)
+
+  -- so it is written wherever there is room
+  pub write-placed : (out : List ℕ) (at : ℕ) → writeOf c e r out at ≡ place (messageOf c e r) out at
+  unfolding writeOf
+  write-placed out at = rw (eq-eqb (check c (messageOf c e r)) 0 sent-check) refl
+
+  -- and found again
+  pub received-back : receiveOf c (messageOf c e r) ≡ record { verdict = Verdict.Accepted; envelope = e; replica = trimmedReplica r }
+  received-back = received-found c e r t s sent-check
+
+-- ---- reading
+
+-- what is refused says nothing
+pub receive-refused : (c : Config) (msg : List ℕ) (k : Refusal) → receiveOf c msg .verdict ≡ Verdict.Refused k → receiveOf c msg ≡ refusedOf k
+unfolding receiveOf verdictOf
+receive-refused c msg k e =
+    let told = sym (received-verdict c msg) ∙ e in
+    let none = refused-check (check c msg) k told in
+    rw none (ap {B = Received} (λ v. record { verdict = v; envelope = blankEnvelope; replica = freshReplica }) (rw none at told))
+
+-- an empty value has no bytes
+start-bytes : bytesOf emptyValue ≡ []
+unfolding bytesOf table run
+start-bytes = refl
+
+-- the value that is received has the bytes of the part that is the value
+pub value-received : (c : Config) (msg : List ℕ) → bytesOf (receiveOf c msg .replica .register .value) ≡ valueAnswer c msg
+unfolding receiveOf valueAnswer
+value-received c msg = by-test (eqb (check c msg) 0)
+  where
+    short : length (valuePart (scanOf c msg) msg) ≤ 64
+    short = omega (arith, value-short c msg, length-take (scanOf c msg .length) (drop (scanOf c msg .from) msg))
+
+    by-test : (b : Bool)
+        → bytesOf (cond b (acceptedOf (scanOf c msg) msg) (refusedOf (refusal (check c msg))) .replica .register .value) ≡ cond b (valuePart (scanOf c msg) msg) []
+    by-test true = bytes-of-value (valuePart (scanOf c msg) msg) short
+    by-test false = start-bytes
+
+module _ (c : Config) (msg : List ℕ) (b : Bytes msg) (a : receiveOf c msg .verdict ≡ Verdict.Accepted) where
+  clean : check c msg ≡ 0
+  clean = accepted-check (check c msg) (sym (received-verdict c msg) ∙ a)
+
+  typed : Typed (receiveOf c msg .envelope) × TypedReplica (receiveOf c msg .replica)
+  typed = received-typed c msg b clean
+
+  -- writing what is taken gives the bytes back
+  pub message-back : messageOf c (receiveOf c msg .envelope) (receiveOf c msg .replica) ≡ msg
+  message-back = message-again c msg b clean
+
+  taken : Taken c (receiveOf c msg .envelope) (receiveOf c msg .replica)
+  taken = taken-told c _ _ (typed .0) (typed .1) (ap (check c) message-back ∙ clean)
+
+  -- it is a lawful envelope and a replica that fits
+  pub receive-told : Passed c (receiveOf c msg .envelope) (receiveOf c msg .replica)
+  receive-told =
+      record {
+        envelope-lawful = told-lawful c (receiveOf c msg .envelope)
+            (record { kind-good = taken .kind-good; fields-good = taken .fields-good; server-good = lt-ltb _ _ (taken .server-good) });
+        envelope-typed = typed .0;
+        replica-typed = typed .1;
+        replica-fits = told-fits c (receiveOf c msg .replica) (record {
+          valid = taken .valid;
+          ledger-bounded = taken .ledger-good;
+          ledger-above = taken .floor-good;
+          register-fits = taken .register-good;
+        });
+      }

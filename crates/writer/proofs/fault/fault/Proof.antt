@@ -1,0 +1,170 @@
+-- `fault` meets its contract, test by test.
+use mathlib.Core.Path.{_≡_, sym, _∙_}
+use mathlib.Core.Bool.{true, cond}
+use borrow.Author.Needs.{needs}
+use borrow.Author.Tests.{not-true, not-false, lt-ltb, le-ltb, le-leb, lt-leb}
+use Rattle.config.specs.Cluster.{validOf}
+use Rattle.ledger.specs.Checks.{bounded, aboveFloor}
+use Rattle.ledger.proofs.Checks.{floor-told, floor-refused, bounds-told, bounds-refused}
+use Rattle.message.specs.Cursors.{within}
+use Rattle.replica.specs.Registers.{registerFits}
+use Rattle.message.specs.Faults.{kindFits, faultOf}
+use Rattle.writer.proofs.fault.fault.Statement.{statement}
+use Rattle.writer.proofs.fault.fault.Tie as tie
+
+-- each test that was passed, from the next one, and the function's entry
+
+abbrev start : tie.Else1 → tie.Start
+start c = c .before .before .before .before
+
+abbrev first : tie.Else3 → tie.Else1
+first c = c .before .before .before .before
+
+abbrev third : tie.Else4 → tie.Else3
+third c = c .before .before
+
+abbrev fourth : tie.Else5 → tie.Else4
+fourth c = c .before .before .before
+
+abbrev fifth : tie.Else6 → tie.Else5
+fifth c = c .before .before
+
+abbrev entry : tie.Else5 → tie.Start
+entry c = start (first (third (fourth c)))
+
+-- what each tells
+
+valid : (c : tie.Else1) → validOf (start c .args .config) ≡ true
+valid c = sym (c .before .valid .ensures) ∙ not-false _ (c .if1 .left)
+
+kind : (c : tie.Else3) → within 1 3 (start (first c) .args .envelope .kind) ≡ true
+unfolding within
+kind c = simp (le-leb 1 _ (c .before .before .if2 .left), le-leb _ 3 (c .if3 .left))
+
+fields : (c : tie.Else4) →
+    let e = start (first (third c)) .args .envelope in
+    kindFits (e .kind) (e .desk) (e .round) (e .note) ≡ true
+fields c = sym (c .before .kind-fits .ensures) ∙ not-false _ (c .if4 .left)
+
+-- past the tests of the envelope, the register decides, and then the ledger
+enveloped : (c : tie.Else5) →
+    let a = entry c .args in
+    faultOf (a .config) (a .envelope) (a .replica)
+    ≡ cond (registerFits (a .config) (a .replica .register))
+    (cond (bounded (a .config) (a .replica .ledger)) (cond (aboveFloor (a .config) (a .replica .ledger)) 0 5) 4)
+    4
+unfolding faultOf
+enveloped c = let d = fourth c in simp (valid (first (third d)), kind (third d), fields d, lt-ltb _ _ (c .if5 .left))
+
+passed : (c : tie.Else6) →
+    let a = entry (fifth c) .args in
+    faultOf (a .config) (a .envelope) (a .replica) ≡ cond (bounded (a .config) (a .replica .ledger)) (cond (aboveFloor (a .config) (a .replica .ledger)) 0 5) 4
+passed c = enveloped (fifth c) ∙ simp (sym (c .before .fits2 .ensures) ∙ not-false _ (c .if6 .left))
+
+valid-requires : tie.Need-valid-requires
+valid-requires c κs = search needs
+
+returns : tie.Need-returns
+unfolding faultOf
+returns c = simp (sym (c .before .valid .ensures) ∙ not-true _ (c .if1 .taken))
+
+returns-2 : tie.Need-returns-2
+unfolding faultOf within
+returns-2 c = simp (valid (c .before .before), lt-leb 1 _ (c .if2 .taken))
+
+returns-3 : tie.Need-returns-3
+unfolding faultOf within
+returns-3 c = simp (valid (c .before .before .before .before), le-leb 1 _ (c .before .before .if2 .left), lt-leb _ 3 (c .if3 .taken))
+
+kind-fits-requires : tie.Need-kind-fits-requires
+kind-fits-requires c κs = search needs
+
+returns-4 : tie.Need-returns-4
+unfolding faultOf
+returns-4 c = let d = c .before .before in simp (valid (first d), kind d, sym (c .before .kind-fits .ensures) ∙ not-true _ (c .if4 .taken))
+
+cast-if5 : tie.Need-cast-if5
+cast-if5 c = search needs
+
+returns-5 : tie.Need-returns-5
+unfolding faultOf
+returns-5 c = let d = c .before .before .before in simp (valid (first (third d)), kind (third d), fields d, le-ltb _ _ (c .if5 .taken))
+
+fits-requires : tie.Need-fits-requires
+fits-requires c κs = search needs
+
+returns-6 : tie.Need-returns-6
+returns-6 c = sym (enveloped (c .before .before) ∙ simp (sym (c .before .fits2 .ensures) ∙ not-true _ (c .if6 .taken)))
+
+check-bounds-requires : tie.Need-check-bounds-requires
+check-bounds-requires c κs = search needs
+
+enum-told : tie.Need-enum-told
+enum-told c = search needs
+
+check-floor-requires : tie.Need-check-floor-requires
+check-floor-requires c κs = search needs
+
+enum-told-2 : tie.Need-enum-told-2
+enum-told-2 c = search needs
+
+enum-told-3 : tie.Need-enum-told-3
+enum-told-3 c = search needs
+
+enum-told-4 : tie.Need-enum-told-4
+enum-told-4 c = search needs
+
+-- the cluster is within bounds
+abbrev lawful : tie.Else6 → tie.Else1
+lawful c = first (third (fourth (fifth c)))
+
+-- the ledger is within bounds
+in-bounds : (c : tie.After-enum-told) →
+    let t = c .before .before .before in
+    let a = entry (fifth t) .args in
+    bounded (a .config) (a .replica .ledger) ≡ true
+in-bounds c = bounds-told _ _ (valid (lawful (c .before .before .before))) (sym (c .before .before .check-bounds .ensures) ∙ c .enum-told .given .1)
+
+returns-7 : tie.Need-returns-7
+returns-7 c =
+    let told = c .before .before .before in
+    let t = told .before .before .before in
+    let above = floor-told _ _ (valid (lawful t)) (sym (c .before .before .check-floor .ensures) ∙ c .enum-told2 .given .1) in
+    sym (passed t ∙ simp (in-bounds told, above))
+
+returns-8 : tie.Need-returns-8
+returns-8 c =
+    let told = c .before .before .before in
+    let t = told .before .before .before in
+    let light = floor-refused _ _ _ (valid (lawful t)) (sym (c .before .before .check-floor .ensures) ∙ c .enum-told3 .given .1) in
+    sym (passed t ∙ simp (in-bounds told, light))
+
+returns-9 : tie.Need-returns-9
+returns-9 c =
+    let t = c .before .before .before in
+    let out = bounds-refused _ _ _ (valid (lawful t)) (sym (c .before .before .check-bounds .ensures) ∙ c .enum-told4 .given .1) in
+    sym (passed t ∙ simp out)
+
+pub fault-spec : {M : Type 1} → statement M
+fault-spec =
+    tie.close
+    (tie.spec
+    valid-requires
+    returns
+    returns-2
+    returns-3
+    kind-fits-requires
+    returns-4
+    cast-if5
+    returns-5
+    fits-requires
+    returns-6
+    check-bounds-requires
+    enum-told
+    check-floor-requires
+    enum-told-2
+    enum-told-3
+    enum-told-4
+    returns-7
+    returns-8
+    returns-9)
