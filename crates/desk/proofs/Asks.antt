@@ -14,7 +14,8 @@ use Rattle.message.specs.Cursors.{within}
 use Rattle.message.specs.Faults.{kindFits, lawful}
 use Rattle.message.specs.Envelopes.{trimmedReplica, Typed as TypedEnvelope}
 use Rattle.message.specs.Answers.{Written, place, between, receiveOf}
-use Rattle.message.proofs.Envelopes.{told-lawful, received-back}
+use Rattle.message.proofs.Lawful.{told-lawful}
+use Rattle.message.proofs.Envelopes.{received-back}
 use Rattle.message.proofs.Placed.{placed-message}
 use Rattle.desk.specs.declared.record.Desk.{Desk}
 use Rattle.desk.specs.Operations.{running}

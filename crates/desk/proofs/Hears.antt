@@ -20,7 +20,8 @@ use Rattle.replica.specs.Replicas.{join, fits as fitsReplica, Typed as TypedRep
 use Rattle.message.specs.Answers.{receiveOf}
 use Rattle.replica.proofs.Values.{empty-fits, empty-typed}
 use Rattle.replica.proofs.Replicas.{fits-told as replica-told, told-fits as told-replica, join-typed, join-fits, Grows, grows-left, grows-right}
-use Rattle.message.proofs.Envelopes.{lawful-told, receive-told}
+use Rattle.message.proofs.Lawful.{lawful-told}
+use Rattle.message.proofs.Envelopes.{receive-told}
 use Rattle.desk.specs.declared.operation.Operation.{Operation}
 use Rattle.desk.specs.declared.record.Desk.{Desk}
 use Rattle.desk.specs.declared.record.Hearing.{Hearing}

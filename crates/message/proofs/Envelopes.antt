@@ -4,11 +4,10 @@ use Prim.Native.Nat.{ℕ, _≤_}
 use mathlib.Core.Path.{_≡_, refl, sym, ap, _∙_}
 use mathlib.Core.Bool.{Bool, true, false, cond}
 use mathlib.Core.List.{List, []}
-use borrow.Author.Tests.{eq-eqb, lt-ltb}
-use lib.Dec.{eqb, ltb}
+use borrow.Author.Tests.{eq-eqb}
+use lib.Dec.{eqb}
 use lib.ListN.{length, length-take, drop}
 use native.Mathlib.Omega.{arith}
-use Rattle.quorums.proofs.Tests.{both}
 use Rattle.config.specs.declared.cluster.Config.{Config}
 use Rattle.config.specs.Refusals.{refusal}
 use Rattle.config.specs.declared.answer.Refusal.{Refusal}
@@ -17,68 +16,21 @@ use Rattle.replica.specs.declared.replica.Replica.{Replica}
 use Rattle.ledger.specs.Tables.{run, table}
 use Rattle.replica.specs.Values.{bytesOf, emptyValue}
 use Rattle.replica.specs.Replicas.{freshReplica, fits, Typed as TypedReplica}
-use Rattle.replica.proofs.Values.{bytes-of-value}
-use Rattle.replica.proofs.Replicas.{fits-told, told-fits}
+use Rattle.replica.proofs.Values.{bytes-of-value, trimmed-bytes, fits-short}
+use Rattle.replica.proofs.Registers.{fits-value}
+use Rattle.replica.proofs.Replicas.{fits-told}
 use Rattle.message.specs.declared.envelope.Envelope.{Envelope}
 use Rattle.message.specs.declared.answer.Received.{Received}
-use Rattle.message.specs.Envelopes.{blankEnvelope, messageOf, trimmedReplica, Typed, Bytes}
-use Rattle.message.specs.Cursors.{within}
+use Rattle.message.specs.Envelopes.{blankEnvelope, carried, messageOf, trimmedReplica, Typed, Bytes}
 use Rattle.message.specs.Scans.{scanOf}
 use Rattle.message.specs.Answers.{check, verdictOf, valuePart, acceptedOf, refusedOf, receiveOf, valueAnswer, place, writeOf}
-use Rattle.message.specs.Faults.{kindFits, lawful, faultOf, Passed}
-use Rattle.message.proofs.Faults.{fault-is-check}
-use Rattle.message.proofs.Found.{Taken, taken-told, received-found}
+use Rattle.message.specs.Faults.{lawful, Passed}
+use Rattle.message.proofs.Found.{taken-told, received-found}
 use Rattle.message.proofs.Numbers.{accepted-check, refused-check, received-verdict}
 use Rattle.message.proofs.Parts.{value-short}
 use Rattle.message.proofs.Rounds.{message-again, received-typed}
 
--- An envelope that is lawful: the kind is one and has the fields that stand, and the server is one of the cluster.
-pub record Lawful (c : Config) (e : Envelope) : Type 0 where
-  pub kind-good : within 1 3 (e .kind) ≡ true
-  pub fields-good : kindFits (e .kind) (e .desk) (e .round) (e .note) ≡ true
-  pub server-good : ltb (e .server) (c .n) ≡ true
-
-pub lawful-told : (c : Config) (e : Envelope) → lawful c e ≡ true → Lawful c e
-unfolding lawful
-lawful-told c e l =
-    let k = both (within 1 3 (e .kind)) _ l in
-    let f = both (kindFits (e .kind) (e .desk) (e .round) (e .note)) _ (k .1) in
-    record { kind-good = k .0; fields-good = f .0; server-good = f .1 }
-
-pub told-lawful : (c : Config) (e : Envelope) → Lawful c e → lawful c e ≡ true
-unfolding lawful
-told-lawful c e l = simp (l .kind-good, l .fields-good, l .server-good)
-
--- ---- writing
-
-module _ (c : Config) (e : Envelope) (r : Replica) (t : Typed e) (s : TypedReplica r) (l : lawful c e ≡ true) (f : fits c r ≡ true) where
-  -- the reader takes the message
-  pub sent-check : check c (messageOf c e r) ≡ 0
-  unfolding faultOf
-  sent-check =
-      let k = lawful-told c e l in
-      let g = fits-told c r f in
-      fault-is-check c e r t s
-      ∙ simp (g .valid, k .kind-good, k .fields-good, k .server-good, g .register-fits, g .ledger-bounded, g .ledger-above)
-
-  -- so it is written wherever there is room
-  pub write-placed : (out : List ℕ) (at : ℕ) → writeOf c e r out at ≡ place (messageOf c e r) out at
-  unfolding writeOf
-  write-placed out at = rw (eq-eqb (check c (messageOf c e r)) 0 sent-check) refl
-
-  -- and found again
-  pub received-back : receiveOf c (messageOf c e r) ≡ record { verdict = Verdict.Accepted; envelope = e; replica = trimmedReplica r }
-  received-back = received-found c e r t s sent-check
-
--- ---- reading
-
--- what is refused says nothing
-pub receive-refused : (c : Config) (msg : List ℕ) (k : Refusal) → receiveOf c msg .verdict ≡ Verdict.Refused k → receiveOf c msg ≡ refusedOf k
-unfolding receiveOf verdictOf
-receive-refused c msg k e =
-    let told = sym (received-verdict c msg) ∙ e in
-    let none = refused-check (check c msg) k told in
-    rw none (ap {B = Received} (λ v. record { verdict = v; envelope = blankEnvelope; replica = freshReplica }) (rw none at told))
+-- ---- the value
 
 -- an empty value has no bytes
 start-bytes : bytesOf emptyValue ≡ []
@@ -98,6 +50,40 @@ value-received c msg = by-test (eqb (check c msg) 0)
     by-test true = bytes-of-value (valuePart (scanOf c msg) msg) short
     by-test false = start-bytes
 
+-- ---- writing
+
+module _ (c : Config) (e : Envelope) (r : Replica) (t : Typed e) (s : TypedReplica r) (l : lawful c e ≡ true) (f : fits c r ≡ true) where
+  -- the reader takes the message
+  pub sent-check : check c (messageOf c e r) ≡ 0
+  sent-check = taken-told c e r t s .1 (l, f)
+
+  -- so it is written wherever there is room
+  pub write-placed : (out : List ℕ) (at : ℕ) → writeOf c e r out at ≡ place (messageOf c e r) out at
+  unfolding writeOf
+  write-placed out at = rw (eq-eqb (check c (messageOf c e r)) 0 sent-check) refl
+
+  -- and found again
+  pub received-back : receiveOf c (messageOf c e r) ≡ record { verdict = Verdict.Accepted; envelope = e; replica = trimmedReplica r }
+  received-back = received-found c e r t s sent-check
+
+  -- and so are the bytes of the value
+  pub value-back : valueAnswer c (messageOf c e r) ≡ carried r
+  value-back =
+      let short = fits-short (r .register .value) (fits-value c (r .register) (fits-told c r f .register-fits)) in
+      sym (value-received c (messageOf c e r))
+      ∙ ap (λ (x : Received). bytesOf (x .replica .register .value)) received-back
+      ∙ trimmed-bytes (r .register .value) short
+
+-- ---- reading
+
+-- what is refused says nothing
+pub receive-refused : (c : Config) (msg : List ℕ) (k : Refusal) → receiveOf c msg .verdict ≡ Verdict.Refused k → receiveOf c msg ≡ refusedOf k
+unfolding receiveOf verdictOf
+receive-refused c msg k e =
+    let told = sym (received-verdict c msg) ∙ e in
+    let none = refused-check (check c msg) k told in
+    rw none (ap {B = Received} (λ v. record { verdict = v; envelope = blankEnvelope; replica = freshReplica }) (rw none at told))
+
 module _ (c : Config) (msg : List ℕ) (b : Bytes msg) (a : receiveOf c msg .verdict ≡ Verdict.Accepted) where
   clean : check c msg ≡ 0
   clean = accepted-check (check c msg) (sym (received-verdict c msg) ∙ a)
@@ -109,21 +95,8 @@ module _ (c : Config) (msg : List ℕ) (b : Bytes msg) (a : receiveOf c msg .ver
   pub message-back : messageOf c (receiveOf c msg .envelope) (receiveOf c msg .replica) ≡ msg
   message-back = message-again c msg b clean
 
-  taken : Taken c (receiveOf c msg .envelope) (receiveOf c msg .replica)
-  taken = taken-told c _ _ (typed .0) (typed .1) (ap (check c) message-back ∙ clean)
-
   -- it is a lawful envelope and a replica that fits
   pub receive-told : Passed c (receiveOf c msg .envelope) (receiveOf c msg .replica)
   receive-told =
-      record {
-        envelope-lawful = told-lawful c (receiveOf c msg .envelope)
-            (record { kind-good = taken .kind-good; fields-good = taken .fields-good; server-good = lt-ltb _ _ (taken .server-good) });
-        envelope-typed = typed .0;
-        replica-typed = typed .1;
-        replica-fits = told-fits c (receiveOf c msg .replica) (record {
-          valid = taken .valid;
-          ledger-bounded = taken .ledger-good;
-          ledger-above = taken .floor-good;
-          register-fits = taken .register-good;
-        });
-      }
+      let taken = taken-told c _ _ (typed .0) (typed .1) .0 (ap (check c) message-back ∙ clean) in
+      record { envelope-lawful = taken .0; envelope-typed = typed .0; replica-typed = typed .1; replica-fits = taken .1 }

@@ -1,7 +1,8 @@
--- Reading undoes writing: what the writer takes is found again in its bytes.
-use Prim.Native.Nat.{ℕ, suc, _-_, _<_}
+-- Reading undoes writing: what the writer takes, which is every lawful envelope with a replica that fits, is found again in its bytes.
+use Prim.Native.Nat.{ℕ, suc}
 use native.Mathlib.Omega.{arith}
 use mathlib.Core.Path.{_≡_, refl, sym, _∙_}
+use mathlib.Core.Logic.{_↔_}
 use mathlib.Core.Bool.{Bool, true, false}
 use borrow.Author.Tests.{ltb-true, eq-eqb}
 use lib.Dec.{ltb}
@@ -11,53 +12,58 @@ use Rattle.config.specs.declared.answer.Verdict.{Verdict}
 use Rattle.ledger.specs.Checks.{bounded, aboveFloor}
 use Rattle.replica.specs.declared.replica.Replica.{Replica}
 use Rattle.replica.specs.Registers.{registerFits}
-use Rattle.replica.specs.Replicas.{Typed as TypedReplica}
+use Rattle.replica.specs.Replicas.{fits, Typed as TypedReplica}
+use Rattle.replica.proofs.Replicas.{fits-told, told-fits}
 use Rattle.message.specs.declared.envelope.Envelope.{Envelope}
 use Rattle.message.specs.Envelopes.{messageOf, trimmedReplica, Typed}
 use Rattle.message.specs.Cursors.{within}
 use Rattle.message.specs.Answers.{check, receiveOf}
-use Rattle.message.specs.Faults.{kindFits, test, faultOf}
+use Rattle.message.specs.Faults.{kindFits, lawful, test, faultOf}
 use Rattle.message.proofs.Faults.{HeadGood, message-found, fault-is-check}
+use Rattle.message.proofs.Lawful.{lawful-told, told-lawful}
 
 passed : (b : Bool) (k r : ℕ) → test b (suc k) r ≡ 0 → (b ≡ true) × (r ≡ 0)
 passed true k r e = (refl, e)
 passed false k r e = absurd (omega arith)
 
--- The tests that what the writer takes has passed.
-pub record Taken (c : Config) (e : Envelope) (r : Replica) : Type 0 where
-  pub valid : validOf c ≡ true
-  pub kind-good : within 1 3 (e .kind) ≡ true
-  pub fields-good : kindFits (e .kind) (e .desk) (e .round) (e .note) ≡ true
-  pub server-good : e .server < c .n
-  pub register-good : registerFits c (r .register) ≡ true
-  pub ledger-good : bounded c (r .ledger) ≡ true
-  pub floor-good : aboveFloor c (r .ledger) ≡ true
-
-module _ (c : Config) (e : Envelope) (r : Replica) (te : Typed e) (tr : TypedReplica r) (clean : check c (messageOf c e r) ≡ 0) where
-  pub taken-told : Taken c e r
+module _ (c : Config) (e : Envelope) (r : Replica) where
+  -- no test finds a fault exactly where the envelope is lawful and the replica fits
+  faultless : faultOf c e r ≡ 0 → (lawful c e ≡ true) × (fits c r ≡ true)
   unfolding faultOf
-  taken-told =
-      let valid = passed (validOf c) 0 _ (sym (fault-is-check c e r te tr) ∙ clean) in
+  faultless none =
+      let valid = passed (validOf c) 0 _ none in
       let kind = passed (within 1 3 (e .kind)) 3 _ (valid .1) in
       let fields = passed (kindFits (e .kind) (e .desk) (e .round) (e .note)) 2 _ (kind .1) in
       let server = passed (ltb (e .server) (c .n)) 3 _ (fields .1) in
       let register = passed (registerFits c (r .register)) 3 _ (server .1) in
       let bounds = passed (bounded c (r .ledger)) 3 _ (register .1) in
-      let floor = passed (aboveFloor c (r .ledger)) 4 0 (bounds .1) in
-      record {
-        valid = valid .0;
-        kind-good = kind .0;
-        fields-good = fields .0;
-        server-good = ltb-true _ _ (server .0);
-        register-good = register .0;
-        ledger-good = bounds .0;
-        floor-good = floor .0;
-      }
+      let floor = passed (aboveFloor c (r .ledger)) 4 0 (bounds .1) in (
+        told-lawful c e (record { kind-good = kind .0; fields-good = fields .0; server-good = server .0 }),
+        told-fits c r (record { valid = valid .0; ledger-bounded = bounds .0; ledger-above = floor .0; register-fits = register .0 }),
+      )
+
+  no-fault : lawful c e ≡ true → fits c r ≡ true → faultOf c e r ≡ 0
+  unfolding faultOf
+  no-fault l f =
+      let k = lawful-told c e l in
+      let g = fits-told c r f in
+      simp (g .valid, k .kind-good, k .fields-good, k .server-good, g .register-fits, g .ledger-bounded, g .ledger-above)
+
+module _ (c : Config) (e : Envelope) (r : Replica) (te : Typed e) (tr : TypedReplica r) where
+  -- so the reader takes these messages, and no others
+  pub taken-told : (check c (messageOf c e r) ≡ 0) ↔ ((lawful c e ≡ true) × (fits c r ≡ true))
+  taken-told =
+      let same = fault-is-check c e r te tr in
+      (λ clean. faultless c e r (sym same ∙ clean), λ t. same ∙ no-fault c e r (t .0) (t .1))
 
   -- reading undoes writing, but for what lies past the value's bytes
-  pub received-found : receiveOf c (messageOf c e r) ≡ record { verdict = Verdict.Accepted; envelope = e; replica = trimmedReplica r }
+  pub received-found : check c (messageOf c e r) ≡ 0
+      → receiveOf c (messageOf c e r) ≡ record { verdict = Verdict.Accepted; envelope = e; replica = trimmedReplica r }
   unfolding receiveOf
-  received-found =
-      let t = taken-told in
-      let head : HeadGood c e r te tr (t .valid) = record { kind-good = t .kind-good; fields-good = t .fields-good; server-good = t .server-good } in
-      simp (eq-eqb (check c (messageOf c e r)) 0 clean) (message-found c e r te tr (t .valid) head (t .register-good) (t .ledger-good))
+  received-found clean =
+      let t = taken-told .0 clean in
+      let k = lawful-told c e (t .0) in
+      let g = fits-told c r (t .1) in
+      let head : HeadGood c e r te tr (g .valid) =
+      record { kind-good = k .kind-good; fields-good = k .fields-good; server-good = ltb-true _ _ (k .server-good) } in
+      simp (eq-eqb (check c (messageOf c e r)) 0 clean) (message-found c e r te tr (g .valid) head (g .register-fits) (g .ledger-bounded))

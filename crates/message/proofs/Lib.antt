@@ -1,4 +1,4 @@
--- Laws. `Faults`: the writer's number is the reader's. `Found`: reading undoes writing. `Rounds`: writing undoes reading. `Bounds`: what the reader takes
+-- Laws. `Faults`: the writer's number is the reader's. `Lawful`: what the test of an envelope says. `Found`: reading undoes writing. `Rounds`: writing undoes reading. `Bounds`: what the reader takes
 -- is within bounds and not light. `Envelopes`: both together, for every lawful envelope and every replica that fits. `Longest`: 1,111 bytes. `Numbers`: a
 -- verdict has the number that the check found. `Placed`: what a call that writes leaves in a buffer. `Parts` is for the calls on values, `Ranges` for what
 -- a call knows of an envelope.
@@ -17,6 +17,7 @@ pub mod Sheets
 pub mod Heads
 pub mod Registers
 pub mod Faults
+pub mod Lawful
 pub mod Found
 pub mod Backs
 pub mod Parts

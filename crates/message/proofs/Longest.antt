@@ -28,6 +28,7 @@ use Rattle.replica.specs.declared.replica.Replica.{Replica}
 use Rattle.replica.specs.Values.{valueFits, bytesOf}
 use Rattle.replica.specs.Registers.{isStart, registerFits}
 use Rattle.replica.specs.Replicas.{Typed as TypedReplica}
+use Rattle.replica.proofs.Replicas.{fits-told}
 use Rattle.message.specs.declared.envelope.Envelope.{Envelope}
 use Rattle.message.specs.Envelopes.{carried, fieldsOf, messageOf, Bytes, Typed}
 use Rattle.message.specs.Answers.{check, receiveOf}
@@ -74,7 +75,7 @@ rows-short c l b =
 pub written-short : (c : Config) (e : Envelope) (r : Replica) → Typed e → TypedReplica r → check c (messageOf c e r) ≡ 0 → length (messageOf c e r) ≤ 1111
 unfolding messageOf stampBytes
 written-short c e r te tr clean =
-    let t = taken-told c e r te tr clean in
+    let t = fits-told c r (taken-told c e r te tr .0 clean .1) in
     let x = fieldsOf e r in
     omega (
       arith,
@@ -84,8 +85,8 @@ written-short c e r te tr clean =
       stands-le (registerMark (r .register .stamp) (r .register .desk) (length (carried r))),
       stands-le (rowMap (countOf (r .ledger)) (cellOf (r .ledger))),
       stands-le (e .note),
-      fits-good c (r .register) (t .register-good) .short,
-      rows-short c (r .ledger) (t .ledger-good),
+      fits-good c (r .register) (t .register-fits) .short,
+      rows-short c (r .ledger) (t .ledger-bounded),
     )
 
 -- and so has what the reader takes

@@ -26,7 +26,8 @@ use Rattle.replica.specs.declared.replica.Replica.{Replica as Kept}
 use Rattle.message.specs.declared.answer.Received.{Received}
 use Rattle.replica.specs.Replicas.{fits, joinable, join, Typed}
 use Rattle.replica.proofs.Replicas.{told-fits, told-joinable}
-use Rattle.message.proofs.Envelopes.{told-lawful, received-back}
+use Rattle.message.proofs.Lawful.{told-lawful}
+use Rattle.message.proofs.Envelopes.{received-back}
 use Rattle.message.proofs.Placed.{place-room, placed-message}
 use Rattle.machine.specs.Sets.{union}
 use Rattle.machine.specs.Parties.{Replica, join as plainJoin, Kind, request, reply, share, kindNumber, Message, fieldsOf, bytesOf}

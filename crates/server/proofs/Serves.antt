@@ -22,7 +22,8 @@ use Rattle.replica.specs.declared.replica.Replica.{Replica}
 use Rattle.replica.specs.Replicas.{fits as fitsReplica, join, Typed as TypedReplica}
 use Rattle.message.specs.Answers.{Written, place, writeOf, receiveOf}
 use Rattle.replica.proofs.Replicas.{join-typed, join-fits, Grows, grows-left, grows-right}
-use Rattle.message.proofs.Envelopes.{lawful-told, told-lawful, write-placed, received-back, receive-told}
+use Rattle.message.proofs.Lawful.{lawful-told, told-lawful}
+use Rattle.message.proofs.Envelopes.{write-placed, received-back, receive-told}
 use Rattle.message.proofs.Placed.{place-room, place-value, place-narrow}
 use Rattle.server.specs.declared.record.Server.{Server}
 use Rattle.server.specs.Servers.{fits, holding, Typed}

@@ -13,7 +13,8 @@ use Rattle.message.specs.Cursors.{within}
 use Rattle.message.specs.Faults.{kindFits, lawful}
 use Rattle.message.specs.Envelopes.{trimmedReplica, Typed as TypedEnvelope}
 use Rattle.message.specs.Answers.{writeOf, Written, place, between, receiveOf}
-use Rattle.message.proofs.Envelopes.{told-lawful, write-placed, received-back}
+use Rattle.message.proofs.Lawful.{told-lawful}
+use Rattle.message.proofs.Envelopes.{write-placed, received-back}
 use Rattle.message.proofs.Placed.{placed-message}
 use Rattle.server.specs.declared.record.Server.{Server}
 use Rattle.server.specs.Servers.{fits, Typed}

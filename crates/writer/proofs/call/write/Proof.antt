@@ -15,12 +15,13 @@ use Rattle.replica.specs.declared.replica.Replica.{Replica}
 use Rattle.replica.specs.Replicas.{Typed as TypedReplica}
 use Rattle.replica.proofs.Values.{fits-short}
 use Rattle.replica.proofs.Registers.{fits-value}
+use Rattle.replica.proofs.Replicas.{Fits, fits-told}
 use Rattle.replica.proofs.Ranges.{replica-is-typed}
 use Rattle.message.specs.Envelopes.{fieldsOf, messageOf, Typed}
 use Rattle.message.specs.Answers.{check}
 use Rattle.message.proofs.Ranges.{envelope-is-typed}
 use Rattle.message.proofs.Faults.{fault-is-check}
-use Rattle.message.proofs.Found.{Taken, taken-told}
+use Rattle.message.proofs.Found.{taken-told}
 use Rattle.writer.specs.Outlines.{Counted, outlineOf, sizeOf}
 use Rattle.writer.proofs.Overs.{lent-length}
 use Rattle.writer.proofs.Messages.{message-length, map-length}
@@ -78,18 +79,18 @@ found c = fault-is-check _ _ _ (envelope-typed (begun c)) (typed (begun c)) ∙ 
 taken : (c : tie.Else1) → number (start c) ≡ 0
 taken c = found (c .before) ∙ c .if1 .left
 
-told : (c : tie.Else1) → Taken (start c .args .config) (start c .args .envelope) (carried (start c))
-told c = taken-told _ _ _ (envelope-typed (start c)) (typed (start c)) (taken c)
+told : (c : tie.Else1) → Fits (start c .args .config) (carried (start c))
+told c = fits-told _ _ (taken-told _ _ _ (envelope-typed (start c)) (typed (start c)) .0 (taken c) .1)
 
 sized : (c : tie.Else1) → TypedLedger (carried (start c) .ledger)
 sized c = typed (start c) .ledger-typed
 
 short : (c : tie.Else1) → carried (start c) .register .value .length ≤ 64
-short c = fits-short _ (fits-value _ _ (told c .register-good))
+short c = fits-short _ (fits-value _ _ (told c .register-fits))
 
 counted : (c : tie.Else1) → Counted (carried (start c) .ledger .counts) (carried (start c) .ledger .cells)
 unfolding givenOf
-counted c i h = count-empty _ _ i (told c .ledger-good) h .0
+counted c i h = count-empty _ _ i (told c .ledger-bounded) h .0
 
 -- the plan has the message's map and size
 

@@ -6,7 +6,7 @@ use borrow.Author.Needs.{needs}
 use borrow.Author.Tests.{ltb-true, not-true, not-false}
 use Rattle.ledger.specs.Joins.{lacks}
 use Rattle.replica.specs.Replicas.{join}
-use Rattle.message.proofs.Envelopes.{lawful-told}
+use Rattle.message.proofs.Lawful.{lawful-told}
 use Rattle.desk.specs.Hears.{stray, timely, clashes, restartOf, markOf}
 use Rattle.desk.proofs.Told.{join-told, join-refused, fields-stray, fields-late, fields-clash, fields-larger, fields-equal}
 use Rattle.desk.proofs.record.Desk.hear_fields.Statement.{statement}
