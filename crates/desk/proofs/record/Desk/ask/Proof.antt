@@ -6,7 +6,7 @@ use borrow.Author.Needs.{needs}
 use borrow.Author.Tests.{eq-eqb, ne-eqb, lt-ltb, le-ltb, not-true, not-false}
 use denote.Ref.{now}
 use Rattle.message.specs.Envelopes.{Typed as TypedEnvelope}
-use Rattle.message.specs.Answers.{Written, place}
+use Rattle.message.specs.Answers.{Written, place, writeOf}
 use Rattle.message.proofs.Envelopes.{write-placed}
 use Rattle.desk.specs.declared.record.Desk.{Desk}
 use Rattle.desk.specs.Desks.{fits, Typed}
@@ -99,8 +99,10 @@ returns-4 c =
     write-placed (x .config) (requestEnvelope x (a .server)) (x .replica)
     (envelope-typed test) (typed test .replica-typed) good (fits-told x s .replica-fits) (now (a .out)) (a .at) in
     let sent = c .before .before .write .ensures in
-    let request = placed ∙ sym (asked test) in
-    (sent .0 ∙ ap (λ (w : Written). w .answer) request, sent .1 ∙ ap (λ (w : Written). w .out) request)
+    let request : c .before .before .write .result ≡ writeOf (x .config) (requestEnvelope x (a .server)) (x .replica) (now (a .out)) (a .at) .answer =
+    sent .0 in
+    let same = placed ∙ sym (asked test) in
+    (request ∙ ap (λ (w : Written). w .answer) same, sent .1 ∙ ap (λ (w : Written). w .out) same)
 
 pub ask-spec : {M : Type 1} → statement M
 ask-spec =
