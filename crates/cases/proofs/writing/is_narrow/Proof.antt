@@ -27,7 +27,10 @@ enum-known-refusal c = search needs
 number-requires : tie.Need-number-requires
 number-requires c κs = search needs
 
--- the array before the call, and the entry
+-- the call, the array before it, and the entry
+abbrev written : tie.After-space3 → tie.After-write
+written c = c .before .before .before .before .before .before .before
+
 abbrev made : tie.After-write → tie.After-marked
 made c = c .before .before
 
@@ -36,7 +39,7 @@ start c = c .before
 
 slice-aggregate-is-marked : tie.Need-slice-aggregate-is-marked
 slice-aggregate-is-marked c =
-    let w = c .before .before .before .before .before .before .before in
+    let w = written c in
     made w .marked .ensures ∙ sym (length-front (made w .marked .result) (w .write .last .1 .1 .1 .0) (start (made w) .args .size) (w .write .kept .1 .1 .1 .0))
 
 is-marked-requires : tie.Need-is-marked-requires

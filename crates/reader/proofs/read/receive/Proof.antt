@@ -10,6 +10,10 @@ use Rattle.reader.proofs.Answered.{check-invalid, check-found, receive-
 use Rattle.reader.proofs.read.receive.Statement.{statement}
 use Rattle.reader.proofs.read.receive.Tie as tie
 
+-- the entry, where the cluster is refused
+abbrev unread : tie.After-refused → tie.Start
+unread c = c .before .before .before .before
+
 valid-requires : tie.Need-valid-requires
 valid-requires c κs = search needs
 
@@ -18,7 +22,7 @@ refused-requires c κs = search needs
 
 returns : tie.Need-returns
 returns c =
-    let a = c .before .before .before .before .args in
+    let a = unread c .args in
     let out : validOf (a .config) ≡ false = sym (c .before .before .valid .ensures) ∙ not-true _ (c .before .if1 .taken) in
     c .refused .ensures ∙ receive-number (a .config) (a .msg .now) 1 (check-invalid _ _ out) (λ e. omega arith)
 

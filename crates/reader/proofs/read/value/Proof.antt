@@ -15,6 +15,9 @@ use Rattle.reader.proofs.read.value.Tie as tie
 
 -- each step from the one after it: the entry and the scan; and what they told
 
+abbrev unread : tie.After-result → tie.Start
+unread c = c .before .before .before .before
+
 abbrev start : tie.Else1 → tie.Start
 start c = c .before .before .before
 
@@ -40,7 +43,7 @@ slice-aggregate-result c = search needs
 returns : tie.Need-returns
 unfolding valueAnswer
 returns c =
-    let a = c .before .before .before .before .args in
+    let a = unread c .args in
     let out : validOf (a .config) ≡ false = sym (c .before .before .valid .ensures) ∙ not-true _ (c .before .if1 .taken) in
     let none : [] ≡ valueAnswer (a .config) (a .msg .now) = simp (valueAnswer, check-invalid (a .config) (a .msg .now) out) in
     none

@@ -41,6 +41,9 @@ tested c = c .before .before .before
 abbrev scanned : tie.Else2 → tie.After-scan
 scanned c = c .before .before .before
 
+abbrev named : tie.After-weight-of → tie.Else3
+named c = c .before .before .before
+
 abbrev of-server : tie.Else3 → tie.Else2
 of-server c = c .before .before
 
@@ -106,10 +109,11 @@ weight-of-requires c κs =
 
 returns-4 : tie.Need-returns-4
 returns-4 c =
-    let found = of-server (c .before .before .before) in
+    let test = named c in
+    let found = of-server test in
     let a = start (tested (scanned found)) .args in
     let sums = scanned found .scan .ensures in
-    let server : serverOf (a .config) (a .server) ≡ true = sym (c .before .before .before .before .has .ensures) ∙ not-false _ (c .before .before .before .if3 .left) in
+    let server : serverOf (a .config) (a .server) ≡ true = sym (test .before .has .ensures) ∙ not-false _ (test .if3 .left) in
     let weight-is : c .weight-of .result ≡ weightOf (a .config) (scanOf (a .config) (a .msg .now) .ledger) (a .server) =
     c .weight-of .ensures ∙ ap₂ (λ r g. weight (accountsIn (a .config) r g) (a .server)) (sums .1) (sums .2) ∙ sums-weight _ _ _ server in
     ap Signed.Value (read-back (c .weight-of .result) (c .weight-of .ok) ∙ weight-is)

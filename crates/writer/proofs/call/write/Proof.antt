@@ -34,15 +34,21 @@ use Rattle.writer.proofs.call.write.Tie as tie
 abbrev begun : tie.After-fault → tie.Start
 begun c = c .before .before
 
+abbrev lent-rows : tie.After-mark-rows-arg4 → tie.Else1
+lent-rows c = c .before .before .before .before .before .before
+
 abbrev passed : tie.After-mark-rows → tie.Else1
-passed c = c .before .before .before .before .before .before .before
+passed c = lent-rows (c .before)
 
 abbrev measured : tie.Else3 → tie.After-measure
 measured c = c .before .before .before
 
 -- the test passed last before the call of `fill`
+abbrev lent-fill : tie.After-fill-arg5 → tie.Else3
+lent-fill c = c .before .before .before .before .before .before
+
 abbrev widened : tie.After-fill → tie.Else3
-widened c = c .before .before .before .before .before .before .before
+widened c = lent-fill (c .before)
 
 abbrev start : tie.Else1 → tie.Start
 start c = begun (c .before)
@@ -129,7 +135,7 @@ returns c =
 
 mark-rows-requires : tie.Need-mark-rows-requires
 mark-rows-requires c κs =
-    let e = c .before .before .before .before .before .before in
+    let e = lent-rows c in
     (sized e .counts-length, sized e .cells-length, counted e)
 
 measure-requires : tie.Need-measure-requires
@@ -157,7 +163,7 @@ part-fill-end c = search needs
 
 fill-requires : tie.Need-fill-requires
 fill-requires c κs =
-    let wide = c .before .before .before .before .before .before in
+    let wide = lent-fill c in
     let plan = measured wide in
     let m = plan .before .mark-rows .ensures in
     let e = passed (plan .before) in

@@ -17,6 +17,9 @@ use Rattle.writer.proofs.fault.fault.Tie as tie
 abbrev start : tie.Else1 → tie.Start
 start c = c .before .before .before .before
 
+abbrev unkind : tie.Then3 → tie.Else1
+unkind c = c .before .before .before .before
+
 abbrev first : tie.Else3 → tie.Else1
 first c = c .before .before .before .before
 
@@ -74,7 +77,7 @@ returns-2 c = simp (valid (c .before .before), lt-leb 1 _ (c .if2 .taken))
 
 returns-3 : tie.Need-returns-3
 unfolding faultOf within
-returns-3 c = simp (valid (c .before .before .before .before), le-leb 1 _ (c .before .before .if2 .left), lt-leb _ 3 (c .if3 .taken))
+returns-3 c = simp (valid (unkind c), le-leb 1 _ (c .before .before .if2 .left), lt-leb _ 3 (c .if3 .taken))
 
 kind-fits-requires : tie.Need-kind-fits-requires
 kind-fits-requires c κs = search needs

@@ -62,14 +62,20 @@ room-map s = room-first (map-bytes s) (kind-bytes s) (entry s) (room-kind s)
 
 -- after each call: the call before, the function's entry, the buffer and the place, and that so much is written
 
+abbrev before-map : tie.After-put-number-arg → tie.Start
+before-map c = c .before .before .before .before
+
 abbrev start-map : tie.After-put-number → tie.Start
-start-map c = c .before .before .before .before .before
+start-map c = before-map (c .before)
 
 written-map : (c : tie.After-put-number) → Written (map-bytes (start-map c)) (entry (start-map c)) (c .put-number .last .0) (c .put-number .result)
 written-map c = record { is-buffer = c .put-number .ensures .0; is-place = c .put-number .ensures .1; room = room-map (start-map c) }
 
+abbrev before-kind : tie.After-struct-known3 → tie.After-put-number
+before-kind c = c .before .before .before .before
+
 abbrev prev-kind : tie.After-put-number2 → tie.After-put-number
-prev-kind c = c .before .before .before .before .before
+prev-kind c = before-kind (c .before)
 
 abbrev start-kind : tie.After-put-number2 → tie.Start
 start-kind c = start-map (prev-kind c)
@@ -83,8 +89,11 @@ at-kind c = prev-kind c .put-number .result + c .put-number2 .result
 written-kind : (c : tie.After-put-number2) → Written (to-kind (start-kind c)) (entry (start-kind c)) (out-kind c) (at-kind c)
 written-kind c = written-next (written-map (prev-kind c)) (kind-bytes (start-kind c)) _ _ (room-kind (start-kind c)) (c .put-number2 .ensures .0) (c .put-number2 .ensures .1)
 
+abbrev before-server : tie.After-struct-known4 → tie.After-put-number2
+before-server c = c .before .before .before .before
+
 abbrev prev-server : tie.After-put-number3 → tie.After-put-number2
-prev-server c = c .before .before .before .before .before
+prev-server c = before-server (c .before)
 
 abbrev start-server : tie.After-put-number3 → tie.Start
 start-server c = start-kind (prev-server c)
@@ -135,7 +144,7 @@ cast-round : tie.Need-cast-round
 cast-round c = search needs
 
 put-number-requires : tie.Need-put-number-requires
-put-number-requires c κs = room-map (c .before .before .before .before)
+put-number-requires c κs = room-map (before-map c)
 
 sub-put-number : tie.Need-sub-put-number
 sub-put-number c = written-place (written-map (c .before .before))
@@ -150,7 +159,9 @@ cast-put-number : tie.Need-cast-put-number
 cast-put-number c = search needs
 
 put-number-requires-2 : tie.Need-put-number-requires-2
-put-number-requires-2 c κs = written-lent (written-map (c .before .before .before .before)) (kind-bytes (start-map (c .before .before .before .before))) (room-kind (start-map (c .before .before .before .before)))
+put-number-requires-2 c κs =
+    let put = before-kind c in
+    written-lent (written-map put) (kind-bytes (start-map put)) (room-kind (start-map put))
 
 add-p : tie.Need-add-p
 add-p c = written-fits (written-kind (c .before .before)) (start-kind (c .before .before) .good .0 .0)
@@ -168,7 +179,9 @@ cast-put-number-2 : tie.Need-cast-put-number-2
 cast-put-number-2 c = search needs
 
 put-number-requires-3 : tie.Need-put-number-requires-3
-put-number-requires-3 c κs = written-lent (written-kind (c .before .before .before .before)) (server-bytes (start-kind (c .before .before .before .before))) (room-server (start-kind (c .before .before .before .before)))
+put-number-requires-3 c κs =
+    let put = before-server c in
+    written-lent (written-kind put) (server-bytes (start-kind put)) (room-server (start-kind put))
 
 add-p-2 : tie.Need-add-p-2
 add-p-2 c = written-fits (written-server (c .before .before)) (start-server (c .before .before) .good .0 .0)

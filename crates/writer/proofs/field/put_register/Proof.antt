@@ -121,8 +121,11 @@ at-length c = at-desk (prev-length c) + c .put-number3 .result
 written-length : (c : tie.After-put-number3) → Written (to-length (start-length c)) (entry (start-length c)) (out-length c) (at-length c)
 written-length c = written-next (written-desk (prev-length c)) (length-bytes (start-length c)) _ _ (room-length (start-length c)) (c .put-number3 .ensures .0) (c .put-number3 .ensures .1)
 
+abbrev before-value : tie.After-put-value-arg3 → tie.After-put-number3
+before-value c = c .before .before .before .before .before .before
+
 abbrev prev-value : tie.After-put-value → tie.After-put-number3
-prev-value c = c .before .before .before .before .before .before .before
+prev-value c = before-value (c .before)
 
 abbrev start-value : tie.After-put-value → tie.Start
 start-value c = start-length (prev-value c)
@@ -198,7 +201,7 @@ part-put-value-end c = search needs
 
 put-value-requires : tie.Need-put-value-requires
 put-value-requires c κs =
-    let length-put = c .before .before .before .before .before .before in
+    let length-put = before-value c in
     let s = start-length length-put in (
       omega (arith, typed s .value-typed .bytes-length, s .pre .0),
       omega (arith, value-size s, written-lent (written-length length-put) (value-bytes s) (room-value s)),

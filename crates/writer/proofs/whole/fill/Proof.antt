@@ -75,8 +75,11 @@ room-head s = room-first (head-bytes s) (register-bytes s) (entry s) (room-regis
 
 -- after each call: the call before, the function's entry, the buffer and the place, and that so much is written
 
+abbrev before-head : tie.After-put-head-arg → tie.Start
+before-head c = c .before .before .before .before .before .before
+
 abbrev start-head : tie.After-put-head → tie.Start
-start-head c = c .before .before .before .before .before .before .before
+start-head c = before-head (c .before)
 
 written-head : (c : tie.After-put-head) → Written (head-bytes (start-head c)) (entry (start-head c)) (c .put-head .last .0) (c .put-head .result)
 written-head c = record { is-buffer = c .put-head .ensures .0; is-place = c .put-head .ensures .1; room = room-head (start-head c) }
@@ -111,8 +114,11 @@ at-map c = at-register (prev-map c) + c .put-number .result
 written-map : (c : tie.After-put-number) → Written (to-map (start-map c)) (entry (start-map c)) (out-map c) (at-map c)
 written-map c = written-next (written-register (prev-map c)) (map-bytes (start-map c)) _ _ (room-map (start-map c)) (c .put-number .ensures .0) (c .put-number .ensures .1)
 
+abbrev before-rows : tie.After-maps2 → tie.After-put-number
+before-rows c = c .before .before .before .before
+
 abbrev prev-rows : tie.After-put-rows → tie.After-put-number
-prev-rows c = c .before .before .before .before .before
+prev-rows c = before-rows (c .before)
 
 abbrev start-rows : tie.After-put-rows → tie.Start
 start-rows c = start-map (prev-rows c)
@@ -145,7 +151,7 @@ cast-note : tie.Need-cast-note
 cast-note c = search needs
 
 put-head-requires : tie.Need-put-head-requires
-put-head-requires c κs = room-head (c .before .before .before .before .before .before)
+put-head-requires c κs = room-head (before-head c)
 
 sub-put-register : tie.Need-sub-put-register
 sub-put-register c = written-place (written-head (c .before .before))
@@ -187,12 +193,12 @@ part-put-rows-end : tie.Need-part-put-rows-end
 part-put-rows-end c = search needs
 
 slice-aggregate-put-rows : tie.Need-slice-aggregate-put-rows
-slice-aggregate-put-rows c = sym (ap length (start-map (c .before .before .before .before) .pre .5) ∙ table-length 16 _)
+slice-aggregate-put-rows c = sym (ap length (start-map (before-rows c) .pre .5) ∙ table-length 16 _)
 
 put-rows-requires : tie.Need-put-rows-requires
 put-rows-requires c κs =
-    let w = written-map (c .before .before .before .before) in
-    let s = start-map (c .before .before .before .before) in
+    let w = written-map (before-rows c) in
+    let s = start-map (before-rows c) in
     (s .pre .0, s .pre .1, s .pre .5, written-lent w (rows-bytes s) (room-rows s))
 
 add-p-3 : tie.Need-add-p-3

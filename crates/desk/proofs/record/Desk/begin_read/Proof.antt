@@ -8,6 +8,9 @@ use Rattle.desk.specs.Begins.{startOf, beginOf}
 use Rattle.desk.proofs.record.Desk.begin_read.Statement.{statement}
 use Rattle.desk.proofs.record.Desk.begin_read.Tie as tie
 
+abbrev entry : tie.After-start → tie.Start
+entry c = c .before .before .before .before
+
 fits-requires : tie.Need-fits-requires
 fits-requires c κs = search needs
 
@@ -27,7 +30,7 @@ start-requires c κs = search needs
 returns-2 : tie.Need-returns-2
 unfolding beginOf
 returns-2 c =
-    let a = c .before .before .before .before .args in
+    let a = entry c .args in
     let empty-is = c .before .empty .ensures ∙ sym value-of-none in
     simp (sym (c .before .before .before .fits2 .ensures) ∙ not-false _ (c .before .before .if1 .left), value-fits [])
     (c .start .ensures ∙ ap (λ v. startOf (a .self) 1 v (a .note)) empty-is)

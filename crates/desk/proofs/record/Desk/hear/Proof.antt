@@ -41,6 +41,9 @@ enum-told c = search needs
 abbrev got : tie.After-enum-told → tie.After-receive
 got c = c .before .before .before .before
 
+abbrev got-refused : tie.After-unheard2 → tie.After-receive
+got-refused c = c .before .before .before .before .before .before
+
 accepts : (c : tie.After-enum-told)
     → receiveOf (entry (got c) .args .self .config) (now (entry (got c) .args .msg)) .verdict ≡ Verdict.Accepted
 accepts c = sym (ap (λ (x : Received). x .verdict) (got c .receive .ensures)) ∙ c .enum-told .given .1
@@ -65,7 +68,7 @@ returns-2 c =
 
 returns-3 : tie.Need-returns-3
 returns-3 c =
-    let r : tie.After-receive = c .before .before .before .before .before .before in
+    let r = got-refused c in
     c .unheard2 .ensures ∙ sym (hear-untaken _ _ _ (fitting r) (r .receive .ensures) _ (c .before .before .verdict .given .1))
 
 pub hear-spec : {M : Type 1} → statement M

@@ -36,6 +36,10 @@ returns-2 c =
     let test : tie.After-timely = c .before .before in
     c .late .ensures ∙ sym (fields-late _ _ _ (own (test .before)) (sym (test .timely .ensures) ∙ not-true _ (c .before .if2 .taken)))
 
+-- the join that is refused
+abbrev clashing : tie.After-unheard2 → tie.After-join
+clashing c = c .before .before .before .before
+
 -- and of the round of the operation that runs
 abbrev entry : tie.Else2 → tie.Start
 entry c = c .before .before .before .before
@@ -57,7 +61,7 @@ unheard-requires-2 c κs = search needs
 
 returns-3 : tie.Need-returns-3
 returns-3 c =
-    let j : tie.After-join = c .before .before .before .before in
+    let j = clashing c in
     let clash = join-refused _ _ _ (j .join .ensures) _ (c .before .enum-told2 .given .1) in
     c .unheard2 .ensures ∙ sym (fields-clash _ _ _ (own (j .before .before .before)) (current (j .before)) clash)
 

@@ -29,6 +29,10 @@ Inv-loop part end bytes₀ k₀ bytes k =
 abbrev μ-loop : tie.MeasureT-loop
 μ-loop part end bytes₀ k₀ bytes k = end - k
 
+-- the slice, at a turn of the loop
+abbrev lent : tie.At-loop Inv-loop μ-loop → List ℕ
+lent t = now (t .before .before .before .args .part)
+
 short-requires : tie.Need-short-requires Inv-loop μ-loop
 short-requires c κs = search needs
 
@@ -50,7 +54,7 @@ loop-less c = search needs
 loop-again : tie.Need-loop-again Inv-loop μ-loop
 loop-again c =
     let turn = c .before .before .loop in
-    let part = now (c .before .before .before .before .before .args .part) in
+    let part = lent (c .before .before) in
     let h : turn .k < length (turn .bytes) = omega (arith, turn .inv .1) in (
       omega arith,
       simp length-set (turn .inv .1),
@@ -62,10 +66,10 @@ told-requires : tie.Need-told-requires Inv-loop μ-loop
 told-requires c κs = search needs
 
 -- the array at the end: past the last byte of the slice both have 0
-filled : (c : tie.After-loop Inv-loop μ-loop) (m : ℕ) → m < 64 → getD (c .before .loop .bytes) m 0 ≡ getD (now (c .before .before .before .before .args .part)) m 0
+filled : (c : tie.After-loop Inv-loop μ-loop) (m : ℕ) → m < 64 → getD (c .before .loop .bytes) m 0 ≡ getD (lent (c .before)) m 0
 filled c m l =
     let turn = c .before .loop in
-    let part = now (c .before .before .before .before .args .part) in
+    let part = lent (c .before) in
     let short = c .before .before .short .ensures .0 in
     let e : turn .k ≡ c .before .before .short .result = omega arith in
     ⊎-elim (λ (b : turn .k ≤ m). turn .inv .3 m b l ∙ sym (List·getD-eq-default part 0 (omega (arith, short)))) (λ (b : m < turn .k). turn .inv .2 m b) (le-or-lt (turn .k) m)

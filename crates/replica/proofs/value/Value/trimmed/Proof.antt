@@ -17,6 +17,9 @@ bytes-kept : (v : Value) → Typed v → valueOf (take (min (v .length) 64) (v .
 unfolding valueOf
 bytes-kept v t = trimmed-lent v t
 
+abbrev entry : tie.After-bytes3 → tie.Start
+entry c = c .before .before .before .before .before .before
+
 -- the array has 64 bytes
 typed : (c : tie.Start) → Typed (c .args .self)
 typed c = value-is-typed (c .args .self) _ (c .good .0)
@@ -39,12 +42,11 @@ of-requires c κs = search needs
 returns : tie.Need-returns
 unfolding trimmed
 returns c =
-    let start = c .before .before .before .before .before .before in
-    let v = start .args .self in
+    let v = entry c .args .self in
     ap (λ l. record { length = v .length; bytes = l })
     (ap (λ (x : Value). x .bytes) (c .before .of .ensures)
     ∙ ap (λ n. valueOf (take n (v .bytes)) .bytes) (c .before .before .before .short .ensures .0)
-    ∙ bytes-kept v (typed start))
+    ∙ bytes-kept v (typed (entry c)))
 
 pub trimmed-spec : {M : Type 1} → statement M
 trimmed-spec =

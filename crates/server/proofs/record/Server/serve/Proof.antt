@@ -43,6 +43,16 @@ enum-told c = search needs
 abbrev got : tie.After-enum-told → tie.After-receive
 got c = c .before .before .before .before
 
+abbrev told : tie.After-slice-known2 → tie.After-enum-told
+told c = c .before .before .before .before
+
+abbrev got-refused : tie.After-unserved2 → tie.After-receive
+got-refused c = c .before .before .before .before .before .before
+
+-- where it is known that the message has bytes
+abbrev known-bytes : tie.After-receive → tie.After-shared-slice-known
+known-bytes c = c .before .before .before .before
+
 accepts : (c : tie.After-enum-told)
     → receiveOf (entry (got c) .args .self .config) (now (entry (got c) .args .msg)) .verdict ≡ Verdict.Accepted
 accepts c = sym (ap (λ (x : Received). x .verdict) (got c .receive .ensures)) ∙ c .enum-told .given .1
@@ -51,7 +61,7 @@ serve-fields-requires : tie.Need-serve-fields-requires
 serve-fields-requires c κs =
     let taken : tie.After-enum-told = c .before in
     let s = entry (got taken) in
-    let known = got taken .before .before .before .before .shared-slice-known .given in
+    let known = known-bytes (got taken) .shared-slice-known .given in
     let bytes : Bytes (now (s .args .msg)) = record { byte = λ k. omega (arith, known k) } in
     (fitting (got taken), rw (got taken .receive .ensures) (receive-told (s .args .self .config) (now (s .args .msg)) bytes (accepts taken)))
 
@@ -66,7 +76,7 @@ same-length c = search needs
 
 returns-2 : tie.Need-returns-2
 returns-2 c =
-    let taken : tie.After-enum-told = c .before .before .before .before in
+    let taken = told c in
     let s = entry (got taken) in
     let served =
     serve-taken (s .args .self) (now (s .args .msg)) (now (s .args .out)) (s .args .at) _ (fitting (got taken)) (got taken .receive .ensures)
@@ -75,7 +85,7 @@ returns-2 c =
 
 returns-3 : tie.Need-returns-3
 returns-3 c =
-    let r : tie.After-receive = c .before .before .before .before .before .before in
+    let r = got-refused c in
     refuse-told _ _ _ _ _ (c .unserved2 .ensures) (serve-untaken _ _ _ _ _ (fitting r) (r .receive .ensures) _ (c .before .before .verdict .given .1))
 
 pub serve-spec : {M : Type 1} → statement M

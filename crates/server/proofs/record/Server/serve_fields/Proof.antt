@@ -33,6 +33,9 @@ returns c =
     let left = fields-stray _ _ _ _ _ (sym (c .before .before .stray .ensures) ∙ c .before .if1 .taken) in
     refuse-told _ _ _ _ _ (c .unserved .ensures) left
 
+abbrev clashing : tie.After-unserved2 → tie.After-join
+clashing c = c .before .before .before .before
+
 abbrev entry : tie.After-join → tie.Start
 entry c = c .before .before .before .before
 
@@ -54,7 +57,7 @@ unserved-requires-2 c κs = search needs
 
 returns-2 : tie.Need-returns-2
 returns-2 c =
-    let j : tie.After-join = c .before .before .before .before in
+    let j = clashing c in
     let clash = join-refused _ _ _ _ (j .join .ensures) (c .before .enum-told2 .given .1) in
     refuse-told _ _ _ _ _ (c .unserved2 .ensures) (fields-clash _ _ _ _ _ (stays j) clash)
 
