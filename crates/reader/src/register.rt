@@ -6,10 +6,13 @@ use config::Config;
 use message::Cursor;
 use message::RegisterRead;
 use replica::MOST_VALUE;
+use replica::Register;
+use replica::Value;
 ghost use mathlib.Core.Path.{_≡_};
-ghost use Prim.Native.Nat.{_≤_};
+ghost use Prim.Native.Nat.{_+_, _≤_};
 ghost use lib.ListN.{length};
 ghost use Rattle.message.specs.Scans.{registerOf};
+ghost use Rattle.reader.specs.Steps.{keptOf};
 
 pub(crate) fn read_register(config: Config, msg: &[u8], stands: u64, cursor: Cursor) -> RegisterRead
     requires { ⌜ cursor .at ≤ length (now msg) ⌝ }
@@ -27,5 +30,19 @@ pub(crate) fn read_register(config: Config, msg: &[u8], stands: u64, cursor: Cur
         from: length.at,
         length: length.x,
         cursor: value,
+    }
+}
+
+// The register that was read, its value copied out of the message.
+pub(crate) fn kept(msg: &[u8], read: RegisterRead) -> Register
+    requires { ⌜ (read .from + read .length ≤ length (now msg)) × (read .stamp ≤ 4294967295) × (read .desk ≤ 65535) ⌝ }
+    ensures { λ r. ⌜ r ≡ keptOf (now (msg .entry)) read ⌝ }
+{
+    let from = read.from;
+    let end = from + (read.length as usize);
+    Register {
+        stamp: read.stamp as u32,
+        desk: read.desk as u16,
+        value: Value::of(&msg[from..end]),
     }
 }

@@ -3,6 +3,7 @@ use super::cursor::MOST_FOUR;
 use super::cursor::bit;
 use super::cursor::read_number;
 use super::head::read_head;
+use super::register::kept;
 use super::register::read_register;
 use super::take::take_rows;
 use super::weigh::most_map;
@@ -11,9 +12,7 @@ use config::Verdict;
 use message::Envelope;
 use message::Received;
 use message::RegisterRead;
-use replica::Register;
 use replica::Replica;
-use replica::Value;
 ghost use mathlib.Core.Path.{_≡_};
 ghost use mathlib.Core.Bool.{true};
 ghost use Rattle.config.specs.Cluster.{validOf};
@@ -52,8 +51,6 @@ pub(crate) fn received_in(config: Config, msg: &[u8]) -> Received
     let after_sheet = sheet.cursor;
     let ledger = sheet.ledger;
     let note = read_number(msg, bit(head.map, 6), 4, 1, MOST_FOUR, after_sheet);
-    let from = register.from;
-    let end = from + (register.length as usize);
     Received {
         verdict: Verdict::Accepted,
         envelope: Envelope {
@@ -65,11 +62,7 @@ pub(crate) fn received_in(config: Config, msg: &[u8]) -> Received
         },
         replica: Replica {
             ledger,
-            register: Register {
-                stamp: register.stamp as u32,
-                desk: register.desk as u16,
-                value: Value::of(&msg[from..end]),
-            },
+            register: kept(msg, register),
         },
     }
 }

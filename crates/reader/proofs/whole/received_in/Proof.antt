@@ -1,13 +1,12 @@
 -- `received_in` meets its contract: each part in turn, from the cursor of the one before it; each number fits its field, and the value lies within the
 -- message.
-use Prim.Native.Nat.{_+_, _-_, _≤_, _<_}
+use Prim.Native.Nat.{_+_, _≤_}
 use native.Mathlib.Omega.{arith}
 use mathlib.Core.Path.{_≡_, ap, sym, _∙_}
 use borrow.Author.Needs.{needs}
 use denote.Ref.{now}
-use lib.ListN.{length, take, drop}
+use lib.ListN.{length}
 use Rattle.format.specs.Bytes.{bit}
-use Rattle.replica.specs.Values.{valueOf}
 use Rattle.message.specs.Cursors.{readNumber}
 use Rattle.message.specs.Scans.{headOf, registerOf, rowsAfter, sheetOf, readNote, scanOf}
 use Rattle.message.proofs.Rounds.{received}
@@ -33,18 +32,12 @@ at-map c = c .before .before .before .before .before
 abbrev at-rows : tie.After-read-number2 → tie.After-take-rows
 at-rows c = c .before .before .before .before
 
--- the note, from the casts that make the envelope and the register, and from the value
+-- the note, from the last cast that makes the envelope, and from the register
 abbrev at-note-round : tie.After-struct-known4 → tie.After-read-number2
 at-note-round c = c .before .before .before .before
 
-abbrev at-note-stamp : tie.After-struct-known6 → tie.After-read-number2
-at-note-stamp c = at-note-round (c .before .before)
-
-abbrev at-note-desk : tie.After-struct-known7 → tie.After-read-number2
-at-note-desk c = at-note-stamp (c .before)
-
-abbrev at-note : tie.After-of → tie.After-read-number2
-at-note c = at-note-desk (c .before .before)
+abbrev at-note : tie.After-kept → tie.After-read-number2
+at-note c = at-note-round (c .before .before)
 
 register-is : (c : tie.After-read-register) →
     let a = start c .args in
@@ -54,9 +47,6 @@ register-is c = rw (← at-head c .read-head .ensures .0, ← c .before .bit .en
 -- the value lies within the message
 within : (c : tie.After-read-register) → c .read-register .result .from + c .read-register .result .length ≤ length (now (start c .args .msg))
 within c = register-within _ _ _ (register-is c) (start c .pre .1)
-
-end-fits : (c : tie.After-read-register) → c .read-register .result .from + c .read-register .result .length < 18446744073709551616
-end-fits c = omega (arith, within c)
 
 -- no row has a fault
 clean : (c : tie.After-read-number) →
@@ -100,50 +90,25 @@ bit-requires-3 c κs = search needs
 read-number-requires-2 : tie.Need-read-number-requires-2
 read-number-requires-2 c κs = search needs
 
-add-end : tie.Need-add-end
-add-end c = omega (arith, end-fits (at-register (at-map c)))
+cast-t15 : tie.Need-cast-t15
+cast-t15 c = omega (arith, at-head (at-register (at-map (c .before))) .read-head .ensures .2)
+
+cast-t16 : tie.Need-cast-t16
+cast-t16 c = omega (arith, at-head (at-register (at-map (c .before .before))) .read-head .ensures .3)
+
+cast-t17 : tie.Need-cast-t17
+cast-t17 c = omega (arith, at-head (at-register (at-map (c .before .before .before))) .read-head .ensures .4)
 
 cast-t18 : tie.Need-cast-t18
-cast-t18 c = omega (arith, at-head (at-register (at-map (c .before))) .read-head .ensures .2)
+cast-t18 c = omega (arith, at-head (at-register (at-map (at-note-round c))) .read-head .ensures .5)
 
 cast-t19 : tie.Need-cast-t19
-cast-t19 c = omega (arith, at-head (at-register (at-map (c .before .before))) .read-head .ensures .3)
+cast-t19 c = search needs
 
-cast-t20 : tie.Need-cast-t20
-cast-t20 c = omega (arith, at-head (at-register (at-map (c .before .before .before))) .read-head .ensures .4)
-
-cast-t21 : tie.Need-cast-t21
-cast-t21 c = omega (arith, at-head (at-register (at-map (at-note-round c))) .read-head .ensures .5)
-
-cast-t22 : tie.Need-cast-t22
-cast-t22 c = search needs
-
-cast-t24 : tie.Need-cast-t24
-cast-t24 c = omega (arith, at-register (at-map (at-note-stamp c)) .read-register .ensures .2)
-
-cast-t25 : tie.Need-cast-t25
-cast-t25 c = omega (arith, at-register (at-map (at-note-desk c)) .read-register .ensures .3)
-
-sub-of : tie.Need-sub-of
-sub-of c = search needs
-
-part-of-start : tie.Need-part-of-start
-part-of-start c = search needs
-
-part-of-end : tie.Need-part-of-end
-part-of-end c = omega (arith, within (at-register (at-map (at-note-desk c))))
-
-of-requires : tie.Need-of-requires
-of-requires c κs = search needs
-
--- the value that was made is that of the part
-value-is : (c : tie.After-of) →
-    let r = at-register (at-map (at-note c)) in
-    c .of .result ≡ valueOf (take (r .read-register .result .length) (drop (r .read-register .result .from) (now (start r .args .msg))))
-value-is c =
-    let r = at-register (at-map (at-note c)) in
-    let width : r .read-register .result .from + r .read-register .result .length - r .read-register .result .from ≡ r .read-register .result .length = omega arith in
-    c .of .ensures ∙ ap (λ k. valueOf (take k (drop (r .read-register .result .from) (now (start r .args .msg))))) width
+kept-requires : tie.Need-kept-requires
+kept-requires c κs =
+    let r = at-register (at-map (at-note-round (c .before))) in
+    (within r, r .read-register .ensures .2, r .read-register .ensures .3)
 
 -- the note, read from the place behind the rows
 note-is : (c : tie.After-read-number2) →
@@ -166,7 +131,7 @@ returns c =
     let r = at-register m in
     let pre = start r .pre in
     let checked = check-found _ _ 0 (pre .0) (sym (pre .1)) in
-    rw (value-is c, received _ _ checked, ← at-head r .read-head .ensures .0, ← r .before .bit .ensures .0, ← r .read-register .ensures .0, ← m .before .before .bit2 .ensures .0, ← m .before .most-map .ensures .0, ← m .read-number .ensures .0, ← at-rows n .take-rows .ensures .0, ← n .before .bit3 .ensures .0, ← note-is n)
+    rw (c .kept .ensures, received _ _ checked, ← at-head r .read-head .ensures .0, ← r .before .bit .ensures .0, ← r .read-register .ensures .0, ← m .before .before .bit2 .ensures .0, ← m .before .most-map .ensures .0, ← m .read-number .ensures .0, ← at-rows n .take-rows .ensures .0, ← n .before .bit3 .ensures .0, ← note-is n)
 
 pub received-in-spec : {M : Type 1} → statement M
 received-in-spec =
@@ -181,16 +146,10 @@ received-in-spec =
     take-rows-requires
     bit-requires-3
     read-number-requires-2
-    add-end
+    cast-t15
+    cast-t16
+    cast-t17
     cast-t18
     cast-t19
-    cast-t20
-    cast-t21
-    cast-t22
-    cast-t24
-    cast-t25
-    sub-of
-    part-of-start
-    part-of-end
-    of-requires
+    kept-requires
     returns)
