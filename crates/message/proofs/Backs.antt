@@ -15,7 +15,7 @@ use Rattle.format.proofs.Lengths.{bytes-length, number-same}
 use Rattle.message.specs.declared.state.Cursor.{Cursor}
 use Rattle.message.specs.Envelopes.{Bytes}
 use Rattle.message.specs.Cursors.{stay, numberAt, within, readBytes, readNumber, skip, require}
-use Rattle.message.proofs.Sticky.{require-open}
+use Rattle.message.proofs.Sticky.{readNumber-open, require-open}
 use Rattle.message.proofs.Moves.{require-passes, require-refuses}
 
 -- The cursor met no fault, and the bytes before it are pre.
@@ -76,22 +76,50 @@ standing-is : (msg : List ℕ) (s w low high : ℕ) (c : Cursor) → c .number �
 unfolding readNumber
 standing-is msg s w low high c e = simp (e, eqb·suc-zero s)
 
-bytes-got : (msg : List ℕ) → Bytes msg → (s w low high : ℕ) (c : Cursor) (pre : List ℕ) → Passed msg c pre → readBytes msg w low high c .number ≡ 0
-    → Got msg (suc s) w low high (readBytes msg w low high c) pre
-unfolding readBytes number within
-bytes-got msg b s w low high c pre h e =
+-- The w bytes from c on were read as d without a fault: they are there, and hold a number of the range.
+pub record BytesRead (msg : List ℕ) (w low high : ℕ) (c d : Cursor) : Type 0 where
+  pub fits : c .at + w ≤ length msg
+  pub low-holds : low ≤ numberAt msg (c .at) w
+  pub high-holds : numberAt msg (c .at) w ≤ high
+  pub is : d ≡ record { number = 0; at = c .at + w; x = numberAt msg (c .at) w }
+
+bytes-read : (msg : List ℕ) (w low high : ℕ) (c : Cursor) → readBytes msg w low high c .number ≡ 0
+    → BytesRead msg w low high c (readBytes msg w low high c)
+unfolding readBytes within
+bytes-read msg w low high c e =
     let room = unfaulted (leb (c .at + w) (length msg)) _ (stay 2 c) 1 refl e in
     let range = unfaulted (cond (leb low (numberAt msg (c .at) w)) (leb (numberAt msg (c .at) w) high) false) _ (stay 4 c) 3 refl (room .1) in
     let tests = both (leb low (numberAt msg (c .at) w)) _ (range .0) in
-    let fits : c .at + w ≤ length msg = leb-true _ _ (room .0) in
+    record { fits = leb-true _ _ (room .0); low-holds = leb-true _ _ (tests .0); high-holds = leb-true _ _ (tests .1); is = rw (room .0, range .0) refl }
+
+-- so it is with a number that stands
+pub number-read : (msg : List ℕ) (s w low high : ℕ) (c : Cursor) → 0 < s → readNumber msg s w low high c .number ≡ 0
+    → BytesRead msg w low high c (readNumber msg s w low high c)
+number-read msg zero w low high c p e = absurd (omega arith)
+number-read msg (suc s) w low high c p e =
+    let same = standing-is msg s w low high c (readNumber-open msg (suc s) w low high c e) in
+    rw same (bytes-read msg w low high c (sym (ap (λ (d : Cursor). d .number) same) ∙ e))
+
+-- it is then at least its least
+pub number-least : (msg : List ℕ) (s w low high : ℕ) (c : Cursor) → 0 < s → readNumber msg s w low high c .number ≡ 0 → low ≤ readNumber msg s w low high c .x
+number-least msg s w low high c p e =
+    let read = number-read msg s w low high c p e in
+    omega (arith, ap (λ (d : Cursor). d .x) (read .is), read .low-holds)
+
+bytes-got : (msg : List ℕ) → Bytes msg → (s w low high : ℕ) (c : Cursor) (pre : List ℕ) → Passed msg c pre → readBytes msg w low high c .number ≡ 0
+    → Got msg (suc s) w low high (readBytes msg w low high c) pre
+unfolding number
+bytes-got msg b s w low high c pre h e =
+    let read = bytes-read msg w low high c e in
+    let fits = read .fits in
     let same : take (c .at + w) msg ≡ pre ++ bytes w (numberAt msg (c .at) w) =
     take-add (c .at) w msg ∙ ap₂ _++_ (h .taken) (sym (bytes-back msg b (c .at) w fits)) in
-    rw (room .0, range .0)
+    rw (read .is)
     (record {
       passed = record { none = refl; place = omega (arith, h .place, length-append pre (bytes w (numberAt msg (c .at) w)), bytes-length w (numberAt msg (c .at) w)); there = fits; taken = same };
       absent = λ z. absurd (omega arith);
-      low-holds = λ p. leb-true _ _ (tests .0);
-      high-holds = leb-true _ _ (tests .1);
+      low-holds = λ p. read .low-holds;
+      high-holds = read .high-holds;
     })
 
 pub number-got : (msg : List ℕ) → Bytes msg → (s w low high : ℕ) (c : Cursor) (pre : List ℕ) → Passed msg c pre

@@ -1,14 +1,13 @@
 -- The sheet and the register of a message without a fault are such as a party may hold: within the paper's ranges, and not light. The scan tests this
 -- itself, so it holds whether or not the numbers of the message are bytes.
-use Prim.Native.Nat.{ℕ, suc, _+_, _-_, _^_, _<_, _≤_}
+use Prim.Native.Nat.{ℕ, suc, _-_, _^_, _<_, _≤_}
 use native.Mathlib.Omega.{arith}
-use mathlib.Core.Path.{_≡_, refl, ap, ap₂, _∙_}
+use mathlib.Core.Path.{_≡_, ap, ap₂, _∙_}
 use mathlib.Core.Logic.{inl, inr, ⊎-elim}
-use mathlib.Core.Bool.{Bool, true, false, cond}
+use mathlib.Core.Bool.{true}
 use mathlib.Core.List.{List}
-use borrow.Author.Tests.{eqb-true, ne-eqb, leb-true, le-leb}
-use lib.Dec.{leb}
-use lib.ListN.{length, take, drop, length-take}
+use borrow.Author.Tests.{eqb-true, le-leb}
+use lib.ListN.{length, drop, length-take}
 use lib.Pow.{pow-pos}
 use Rattle.quorums.proofs.Sums.{sum-same}
 use Rattle.quorums.proofs.Tests.{le-or-lt}
@@ -17,20 +16,18 @@ use Rattle.ledger.specs.Checks.{totalFits, bounded, aboveFloor}
 use Rattle.ledger.proofs.Totals.{Placed}
 use Rattle.format.specs.Bytes.{bit}
 use Rattle.format.proofs.Marks.{bit-above, bit-none}
-use Rattle.replica.specs.declared.register.Register.{Register}
-use Rattle.replica.specs.Values.{valueOf}
 use Rattle.replica.specs.Registers.{isStart, registerFits}
 use Rattle.replica.proofs.Values.{value-length, value-fits}
 use Rattle.replica.proofs.Registers.{start-shown, start-passes, Tagged, tagged-fits}
 use Rattle.message.specs.declared.answer.Received.{Received}
 use Rattle.message.specs.declared.state.Cursor.{Cursor}
 use Rattle.message.specs.declared.state.RegisterRead.{RegisterRead}
-use Rattle.message.specs.Cursors.{stay, numberAt, within, readBytes, readNumber}
+use Rattle.message.specs.Cursors.{readNumber}
 use Rattle.message.specs.Scans.{cellsAfter, cellRead, readCount, cellMapOf, rowCells, rowOf, rowsAfter, countRead, cellOfRow, ledgerRead, registerOf, sheetOf, endOf, scanOf}
-use Rattle.message.specs.Answers.{check, replicaOf, receiveOf}
+use Rattle.message.specs.Answers.{check, valuePart, keptOf, replicaOf, receiveOf}
 use Rattle.message.proofs.Sticky.{readNumber-open, require-open, skip-open, cells-open, rows-sooner, sheet-open, note-open, end-open}
-use Rattle.message.proofs.Parts.{register-short}
-use Rattle.message.proofs.Backs.{number-absent, number-most, require-got}
+use Rattle.message.proofs.Parts.{part-short}
+use Rattle.message.proofs.Backs.{number-absent, number-most, number-least, require-got}
 use Rattle.message.proofs.GoodRows.{RowGood}
 use Rattle.message.proofs.Sheets.{rows-good}
 use Rattle.message.proofs.SheetBacks.{ledger-same}
@@ -96,57 +93,26 @@ sheet-bounded c msg s from e = rows-bounded c msg _ _ (omega (arith, number-most
 
 -- ---- the register
 
--- the w bytes from a cursor on, by whether they are there, and hold a number from a least to a most
-abbrev bytesBy : List ℕ → ℕ → Cursor → Bool → Bool → Bool → Cursor
-bytesBy msg w c there least most =
-    cond there (cond (cond least most false) (record { number = 0; at = c .at + w; x = numberAt msg (c .at) w }) (stay 4 c)) (stay 2 c)
-
-by-tests : (msg : List ℕ) (w low : ℕ) (c : Cursor) (a b d : Bool) → leb low (numberAt msg (c .at) w) ≡ b → bytesBy msg w c a b d .number ≡ 0
-    → low ≤ bytesBy msg w c a b d .x
-by-tests msg w low c true true true t h = leb-true _ _ t
-by-tests msg w low c true true false t h = absurd (omega (arith, h))
-by-tests msg w low c true false d t h = absurd (omega (arith, h))
-by-tests msg w low c false b d t h = absurd (omega (arith, h))
-
--- a number that stands, read without a fault, is at least its least
-number-least : (msg : List ℕ) (s w low high : ℕ) (c : Cursor) → 0 < s → readNumber msg s w low high c .number ≡ 0 → low ≤ readNumber msg s w low high c .x
-unfolding readNumber readBytes within
-number-least msg s w low high c p e =
-    let none = readNumber-open msg s w low high c e in
-    rw (none, ne-eqb s 0 (λ z. omega arith))
-    (by-tests msg w low c (leb (c .at + w) (length msg)) (leb low (numberAt msg (c .at) w)) (leb (numberAt msg (c .at) w) high) refl
-    (rw (none, ne-eqb s 0 (λ z. omega arith)) at e))
-
 module _ (c : Config) (msg : List ℕ) (s : ℕ) (from : Cursor) (e : registerOf c msg s from .cursor .number ≡ 0) where
   read : RegisterRead
   read = registerOf c msg s from
 
-  part : List ℕ
-  part = take (read .length) (drop (read .from) msg)
-
-  kept : Register
-  kept = record { stamp = read .stamp; desk = read .desk; value = valueOf part }
-
-  part-length : length part ≤ read .length
-  unfolding part
-  part-length = omega (arith, length-take (read .length) (drop (read .from) msg))
-
-  part-short : length part ≤ 64
+  short : length (valuePart msg read) ≤ 64
   unfolding read
-  part-short = omega (arith, part-length, register-short c msg s from)
+  short = part-short c msg s from
 
   none : s ≡ 0 → read .length ≡ 0
   unfolding read registerOf
   none z = unread msg s _ _ _ _ z
 
-  absent : s ≡ 0 → isStart kept ≡ true
-  unfolding kept read registerOf
+  absent : s ≡ 0 → isStart (keptOf msg read) ≡ true
+  unfolding read registerOf
   absent z =
-      let empty : length part ≡ 0 = omega (arith, part-length, none z) in
-      start-shown kept (unread msg s _ _ _ _ z) (unread msg s _ _ _ _ z) (value-length part part-short ∙ empty)
+      let empty : length (valuePart msg read) ≡ 0 = omega (arith, none z, length-take (read .length) (drop (read .from) msg)) in
+      start-shown (keptOf msg read) (unread msg s _ _ _ _ z) (unread msg s _ _ _ _ z) (value-length (valuePart msg read) short ∙ empty)
 
-  present : 0 < s → Tagged c kept
-  unfolding kept read registerOf
+  present : 0 < s → Tagged c (keptOf msg read)
+  unfolding read registerOf
   present p =
       let length-open = skip-open msg _ _ e in
       let desk-open = readNumber-open msg s _ _ _ _ length-open in
@@ -154,17 +120,18 @@ module _ (c : Config) (msg : List ℕ) (s : ℕ) (from : Cursor) (e : registerOf
         stamp-stands = number-least msg s _ _ _ _ p (readNumber-open msg s _ _ _ _ desk-open);
         stamp-most = number-most msg s _ _ _ _;
         desk-stands = number-least msg s _ _ _ _ p desk-open;
-        value-fits = value-fits part ∙ le-leb (length part) 64 part-short;
+        value-fits = value-fits (valuePart msg read) ∙ le-leb (length (valuePart msg read)) 64 short;
       }
 
-  register-passes : registerFits c kept ≡ true
+  register-passes : registerFits c (keptOf msg (registerOf c msg s from)) ≡ true
+  unfolding read
   register-passes =
-      ⊎-elim (λ (z : s ≤ 0). start-passes c kept (absent (omega arith))) (λ (p : 0 < s). tagged-fits c kept (present p)) (le-or-lt s 0)
+      ⊎-elim (λ (z : s ≤ 0). start-passes c (keptOf msg read) (absent (omega arith))) (λ (p : 0 < s). tagged-fits c (keptOf msg read) (present p)) (le-or-lt s 0)
 
 -- ---- a message without a fault
 
 scan-register : (c : Config) (msg : List ℕ) → scanOf c msg .number ≡ 0 → registerFits c (replicaOf (scanOf c msg) msg .register) ≡ true
-unfolding scanOf kept part read
+unfolding scanOf
 scan-register c msg e = register-passes c msg _ _ (sheet-open c msg _ _ (note-open msg _ _ (end-open c msg _ _ e)))
 
 scan-bounded : (c : Config) (msg : List ℕ) → scanOf c msg .number ≡ 0 → bounded c (scanOf c msg .ledger) ≡ true

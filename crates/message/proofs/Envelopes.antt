@@ -1,13 +1,11 @@
 -- Messages whole. A replica that fits travels with every lawful envelope: the reader takes the message, and finds both again, the value with zeros
 -- after its bytes. What a reader takes is a lawful envelope and a replica that fits, and writing them gives the bytes back; what it refuses says nothing.
-use Prim.Native.Nat.{ℕ, _≤_}
+use Prim.Native.Nat.{ℕ}
 use mathlib.Core.Path.{_≡_, refl, sym, ap, _∙_}
 use mathlib.Core.Bool.{Bool, true, false, cond}
 use mathlib.Core.List.{List, []}
 use borrow.Author.Tests.{eq-eqb}
 use lib.Dec.{eqb}
-use lib.ListN.{length, length-take, drop}
-use native.Mathlib.Omega.{arith}
 use Rattle.config.specs.declared.cluster.Config.{Config}
 use Rattle.config.specs.Refusals.{refusal}
 use Rattle.config.specs.declared.answer.Refusal.{Refusal}
@@ -42,12 +40,12 @@ pub value-received : (c : Config) (msg : List ℕ) → bytesOf (receiveOf c msg 
 unfolding receiveOf valueAnswer
 value-received c msg = by-test (eqb (check c msg) 0)
   where
-    short : length (valuePart (scanOf c msg) msg) ≤ 64
-    short = omega (arith, value-short c msg, length-take (scanOf c msg .length) (drop (scanOf c msg .from) msg))
+    part : List ℕ
+    part = valuePart msg (scanOf c msg .register)
 
     by-test : (b : Bool)
-        → bytesOf (cond b (acceptedOf (scanOf c msg) msg) (refusedOf (refusal (check c msg))) .replica .register .value) ≡ cond b (valuePart (scanOf c msg) msg) []
-    by-test true = bytes-of-value (valuePart (scanOf c msg) msg) short
+        → bytesOf (cond b (acceptedOf (scanOf c msg) msg) (refusedOf (refusal (check c msg))) .replica .register .value) ≡ cond b part []
+    by-test true = bytes-of-value part (value-short c msg)
     by-test false = start-bytes
 
 -- ---- writing
@@ -91,12 +89,8 @@ module _ (c : Config) (msg : List ℕ) (b : Bytes msg) (a : receiveOf c msg .ver
   typed : Typed (receiveOf c msg .envelope) × TypedReplica (receiveOf c msg .replica)
   typed = received-typed c msg b clean
 
-  -- writing what is taken gives the bytes back
-  pub message-back : messageOf c (receiveOf c msg .envelope) (receiveOf c msg .replica) ≡ msg
-  message-back = message-again c msg b clean
-
-  -- it is a lawful envelope and a replica that fits
+  -- what is taken is a lawful envelope and a replica that fits
   pub receive-told : Passed c (receiveOf c msg .envelope) (receiveOf c msg .replica)
   receive-told =
-      let taken = taken-told c _ _ (typed .0) (typed .1) .0 (ap (check c) message-back ∙ clean) in
+      let taken = taken-told c _ _ (typed .0) (typed .1) .0 (ap (check c) (message-again c msg b clean) ∙ clean) in
       record { envelope-lawful = taken .0; envelope-typed = typed .0; replica-typed = typed .1; replica-fits = taken .1 }

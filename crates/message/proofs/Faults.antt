@@ -181,9 +181,7 @@ module _ (c : Config) (e : Envelope) (p : Replica) (te : Typed e) (tp : TypedRep
       record {
         number = endOf c (messageOf c e p) (s .ledger) n .number;
         envelope = record { kind = x .kind; server = x .server; desk = x .desk; round = x .round; note = n .x };
-        tag = record { stamp = r .stamp; desk = r .desk };
-        from = r .from;
-        length = r .length;
+        register = r;
         ledger = s .ledger;
       }
 
@@ -201,14 +199,12 @@ module _ (c : Config) (e : Envelope) (p : Replica) (te : Typed e) (tp : TypedRep
       record {
         number = endOf c (messageOf c e p) (p .ledger) noteIs .number;
         envelope = e;
-        tag = record { stamp = p .register .stamp; desk = p .register .desk };
-        from = valuePlace;
-        length = length (carried p);
+        register = registerIs;
         ledger = p .ledger;
       }
 
   scan-is : HeadGood → registerFits c (p .register) ≡ true → bounded c (p .ledger) ≡ true → scanOf c (messageOf c e p) ≡ scanIs
-  unfolding scanFrom headIs registerIs noteIs scanIs
+  unfolding scanFrom headIs noteIs scanIs
   scan-is g r b =
       scan-from headIs registerIs sheetIs noteIs (head-is g) (register-is g r) (sheet-is g r) (note-is b)
       ∙ ap
@@ -216,9 +212,7 @@ module _ (c : Config) (e : Envelope) (p : Replica) (te : Typed e) (tp : TypedRep
       record {
         number = endOf c (messageOf c e p) l noteIs .number;
         envelope = e;
-        tag = record { stamp = p .register .stamp; desk = p .register .desk };
-        from = valuePlace;
-        length = length (carried p);
+        register = registerIs;
         ledger = l;
       })
       (ledger-is b)
@@ -226,7 +220,7 @@ module _ (c : Config) (e : Envelope) (p : Replica) (te : Typed e) (tp : TypedRep
   -- the envelope and the replica are found, but for what lies past the value's bytes
   pub message-found : HeadGood → registerFits c (p .register) ≡ true → bounded c (p .ledger) ≡ true
       → acceptedOf (scanOf c (messageOf c e p)) (messageOf c e p) ≡ record { verdict = Verdict.Accepted; envelope = e; replica = trimmedReplica p }
-  unfolding scanIs valuePlace
+  unfolding scanIs registerIs valuePlace
   message-found g r b =
       let value = registers.value-found c _ _ _ _ _ _ (carried p) at-register in
       let whole = trimmed-is (p .register .value) (fits-short (p .register .value) (fits-value c (p .register) r)) in

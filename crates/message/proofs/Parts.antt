@@ -6,11 +6,12 @@ use mathlib.Core.Bool.{Bool, true, false, cond}
 use mathlib.Core.List.{List}
 use borrow.Author.Tests.{leb-true, eq-eqb}
 use lib.Dec.{leb}
-use lib.ListN.{length}
+use lib.ListN.{length, drop, length-take}
 use Rattle.config.specs.declared.cluster.Config.{Config}
 use Rattle.message.specs.declared.state.Cursor.{Cursor}
 use Rattle.message.specs.Cursors.{stay, skip}
 use Rattle.message.specs.Scans.{registerOf, scanOf}
+use Rattle.message.specs.Answers.{valuePart}
 use Rattle.message.proofs.Sticky.{skip-open, sheet-open, note-open, end-open}
 use Rattle.message.proofs.Backs.{number-most}
 
@@ -28,14 +29,19 @@ register-fits : (c : Config) (msg : List ℕ) (s : ℕ) (from : Cursor) → regi
 unfolding registerOf
 register-fits c msg s from e = skip-fits msg _ _ e
 
-pub register-short : (c : Config) (msg : List ℕ) (s : ℕ) (from : Cursor) → registerOf c msg s from .length ≤ 64
+register-short : (c : Config) (msg : List ℕ) (s : ℕ) (from : Cursor) → registerOf c msg s from .length ≤ 64
 unfolding registerOf
 register-short c msg s from = number-most msg s 1 0 64 _
 
-pub value-within : (c : Config) (msg : List ℕ) → scanOf c msg .number ≡ 0 → scanOf c msg .from + scanOf c msg .length ≤ length msg
+pub value-within : (c : Config) (msg : List ℕ) → scanOf c msg .number ≡ 0 → scanOf c msg .register .from + scanOf c msg .register .length ≤ length msg
 unfolding scanOf
 value-within c msg e = register-fits c msg _ _ (sheet-open c msg _ _ (note-open msg _ _ (end-open c msg _ _ e)))
 
-pub value-short : (c : Config) (msg : List ℕ) → scanOf c msg .length ≤ 64
+pub part-short : (c : Config) (msg : List ℕ) (s : ℕ) (from : Cursor) → length (valuePart msg (registerOf c msg s from)) ≤ 64
+part-short c msg s from =
+    let r = registerOf c msg s from in
+    omega (arith, register-short c msg s from, length-take (r .length) (drop (r .from) msg))
+
+pub value-short : (c : Config) (msg : List ℕ) → length (valuePart msg (scanOf c msg .register)) ≤ 64
 unfolding scanOf
-value-short c msg = register-short c msg _ _
+value-short c msg = part-short c msg _ _

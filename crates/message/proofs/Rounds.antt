@@ -19,20 +19,19 @@ use Rattle.format.specs.Bytes.{number, stands, bit}
 use Rattle.format.specs.Table.{registerMark, register, rowMap, sheet, fieldMap, fieldMapOf, head, note, encodeFields}
 use Rattle.format.proofs.Marks.{stands-bit, bit-le, marks-bit, marks-stand}
 use Rattle.replica.specs.declared.replica.Replica.{Replica}
-use Rattle.replica.specs.Values.{valueOf}
 use Rattle.replica.specs.Replicas.{Typed as TypedReplica}
 use Rattle.replica.proofs.Values.{bytes-of-value, value-typed}
 use Rattle.message.specs.declared.envelope.Envelope.{Envelope}
 use Rattle.message.specs.declared.answer.Received.{Received}
 use Rattle.message.specs.declared.state.Cursor.{Cursor}
-use Rattle.message.specs.Envelopes.{carried, messageOf, Bytes, Typed}
+use Rattle.message.specs.Envelopes.{carried, fieldsWith, messageOf, Bytes, Typed}
 use Rattle.message.specs.Scans.{mapLawful, headOf, registerOf, sheetOf, readNote, endOf, scanOf}
-use Rattle.message.specs.Answers.{check, replicaOf, acceptedOf, receiveOf}
+use Rattle.message.specs.Answers.{check, valuePart, keptOf, replicaOf, acceptedOf, receiveOf}
 use Rattle.message.proofs.Sticky.{require-open, register-open, sheet-open, note-open, end-open}
 use Rattle.message.proofs.Backs.{Passed, Got, number-got, got-mark, own-mark, require-got}
 use Rattle.message.proofs.FieldBacks.{HeadBack, head-back, RegisterBack, register-back}
 use Rattle.message.proofs.SheetBacks.{SheetBack, sheet-back, ledger-typed}
-use Rattle.message.proofs.Parts.{register-short}
+use Rattle.message.proofs.Parts.{part-short}
 
 -- a lawful map is that of fields that stand where its bits do
 lawful-small : (m : ℕ) → mapLawful m ≡ true → m < 128
@@ -99,7 +98,7 @@ module _ (c : Config) (valid : validOf c ≡ true) (msg : List ℕ) (b : Bytes m
   noteRead = readNote msg (bit map 6) sheetEnd
 
   value : List ℕ
-  value = take (registerOf c msg (bit map 4) headEnd .length) (drop (registerOf c msg (bit map 4) headEnd .from) msg)
+  value = valuePart msg (registerOf c msg (bit map 4) headEnd)
 
   end-clean : endOf c msg ledger noteRead .number ≡ 0
   unfolding scanOf noteRead ledger sheetEnd registerEnd headEnd map
@@ -184,9 +183,7 @@ module _ (c : Config) (valid : validOf c ≡ true) (msg : List ℕ) (b : Bytes m
 
   short : length value ≤ 64
   unfolding value
-  short =
-      let part = drop (registerOf c msg (bit map 4) headEnd .from) msg in
-      omega (arith, register-short c msg (bit map 4) headEnd, length-take (registerOf c msg (bit map 4) headEnd .length) part)
+  short = part-short c msg (bit map 4) headEnd
 
   envelope : Envelope
   envelope =
@@ -202,12 +199,7 @@ module _ (c : Config) (valid : validOf c ≡ true) (msg : List ℕ) (b : Bytes m
   replica =
       record {
         ledger = ledger;
-        register =
-            record {
-              stamp = registerOf c msg (bit map 4) headEnd .stamp;
-              desk = registerOf c msg (bit map 4) headEnd .desk;
-              value = valueOf value;
-            };
+        register = keptOf msg (registerOf c msg (bit map 4) headEnd);
       }
 
   envelope-is : scanOf c msg .envelope ≡ envelope
@@ -219,21 +211,11 @@ module _ (c : Config) (valid : validOf c ≡ true) (msg : List ℕ) (b : Bytes m
   replica-is = refl
 
   carried-is : carried replica ≡ value
-  unfolding replica
+  unfolding replica value
   carried-is = bytes-of-value value short
 
-  -- the bytes of these fields, with the value v
-  bytesWith : List ℕ → List ℕ
-  bytesWith v =
-      let mark = registerMark (replica .register .stamp) (replica .register .desk) (length v) in
-      head (fieldMap (envelope .desk) (envelope .round) mark (rowMap (countOf (replica .ledger)) (cellOf (replica .ledger))) (envelope .note))
-      (envelope .kind) (envelope .server) (envelope .desk) (envelope .round)
-      ++ register c (replica .register .stamp) (replica .register .desk) v
-      ++ sheet (countOf (replica .ledger)) (cellOf (replica .ledger))
-      ++ note (envelope .note)
-
-  found-bytes : bytesWith value ≡ msg
-  unfolding bytesWith envelope replica headBytes registerBytes sheetBytes
+  found-bytes : encodeFields c (fieldsWith envelope replica value) ≡ msg
+  unfolding encodeFields fieldMapOf envelope replica headBytes registerBytes sheetBytes
   found-bytes =
       ap
       (λ m.
@@ -242,10 +224,10 @@ module _ (c : Config) (valid : validOf c ≡ true) (msg : List ℕ) (b : Bytes m
       ∙ sym msg-is
 
   bytes-back : messageOf c envelope replica ≡ msg
-  unfolding messageOf encodeFields fieldMapOf bytesWith
-  bytes-back = ap bytesWith carried-is ∙ found-bytes
+  unfolding messageOf
+  bytes-back = ap (λ v. encodeFields c (fieldsWith envelope replica v)) carried-is ∙ found-bytes
 
-  pub scan-back : messageOf c (scanOf c msg .envelope) (replicaOf (scanOf c msg) msg) ≡ msg
+  scan-back : messageOf c (scanOf c msg .envelope) (replicaOf (scanOf c msg) msg) ≡ msg
   scan-back = ap₂ (messageOf c) envelope-is replica-is ∙ bytes-back
 
   found-typed : Typed envelope × TypedReplica replica
@@ -270,7 +252,7 @@ module _ (c : Config) (valid : validOf c ≡ true) (msg : List ℕ) (b : Bytes m
     },
   )
 
-  pub scan-typed : Typed (scanOf c msg .envelope) × TypedReplica (replicaOf (scanOf c msg) msg)
+  scan-typed : Typed (scanOf c msg .envelope) × TypedReplica (replicaOf (scanOf c msg) msg)
   scan-typed = rw (envelope-is, replica-is) found-typed
 
 -- where the reader finds no fault, the cluster is lawful and the scan has passed

@@ -10,10 +10,12 @@ use Rattle.config.specs.Refusals.{refusal}
 use Rattle.config.specs.declared.answer.Refusal.{Refusal}
 use Rattle.config.specs.declared.answer.Verdict.{Verdict}
 use Rattle.config.specs.declared.answer.Number.{Number}
+use Rattle.replica.specs.declared.register.Register.{Register}
 use Rattle.replica.specs.declared.replica.Replica.{Replica}
 use Rattle.replica.specs.Values.{valueOf}
 use Rattle.replica.specs.Replicas.{freshReplica}
 use Rattle.message.specs.declared.envelope.Envelope.{Envelope}
+use Rattle.message.specs.declared.state.RegisterRead.{RegisterRead}
 use Rattle.message.specs.declared.answer.Received.{Received}
 use Rattle.message.specs.declared.answer.Fields.{Fields}
 use Rattle.message.specs.Envelopes.{blankEnvelope, messageOf}
@@ -32,14 +34,17 @@ verdictOf k = cond (eqb k 0) Verdict.Accepted (Verdict.Refused (refusal k))
 unfoldable pub checkAnswer : Config → List ℕ → Verdict
 checkAnswer c msg = verdictOf (check c msg)
 
--- the part of a message where a scan says that the value lies
-abbrev pub valuePart : Scan → List ℕ → List ℕ
-valuePart s msg = take (s .length) (drop (s .from) msg)
+-- the part of a message that is the value of the register that was read
+abbrev pub valuePart : List ℕ → RegisterRead → List ℕ
+valuePart msg r = take (r .length) (drop (r .from) msg)
+
+-- that register, the value copied
+abbrev pub keptOf : List ℕ → RegisterRead → Register
+keptOf msg r = record { stamp = r .stamp; desk = r .desk; value = valueOf (valuePart msg r) }
 
 -- the replica that a scan found
 abbrev pub replicaOf : Scan → List ℕ → Replica
-replicaOf s msg =
-    record { ledger = s .ledger; register = record { stamp = s .tag .stamp; desk = s .tag .desk; value = valueOf (valuePart s msg) } }
+replicaOf s msg = record { ledger = s .ledger; register = keptOf msg (s .register) }
 
 abbrev pub acceptedOf : Scan → List ℕ → Received
 acceptedOf s msg = record { verdict = Verdict.Accepted; envelope = s .envelope; replica = replicaOf s msg }
@@ -66,7 +71,7 @@ fieldsAnswer c msg =
 
 -- the value as that part of the message, "an empty part without a register or on any refusal"
 unfoldable pub valueAnswer : Config → List ℕ → List ℕ
-valueAnswer c msg = cond (eqb (check c msg) 0) (valuePart (scanOf c msg) msg) []
+valueAnswer c msg = cond (eqb (check c msg) 0) (valuePart msg (scanOf c msg .register)) []
 
 -- ---- writing
 

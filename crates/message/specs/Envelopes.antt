@@ -27,9 +27,9 @@ blankEnvelope = record { kind = 0; server = 0; desk = 0; round = 0; note = 0 }
 abbrev pub carried : Replica → List ℕ
 carried r = bytesOf (r .register .value)
 
--- the fields of a message
-abbrev pub fieldsOf : Envelope → Replica → Fields
-fieldsOf e r =
+-- the fields of a message whose value has the bytes v
+abbrev pub fieldsWith : Envelope → Replica → List ℕ → Fields
+fieldsWith e r v =
     record {
       kind = e .kind;
       server = e .server;
@@ -37,11 +37,15 @@ fieldsOf e r =
       round = e .round;
       stamp = r .register .stamp;
       tag-desk = r .register .desk;
-      value = carried r;
+      value = v;
       count = countOf (r .ledger);
       cell = cellOf (r .ledger);
       note = e .note;
     }
+
+-- the fields of a message
+abbrev pub fieldsOf : Envelope → Replica → Fields
+fieldsOf e r = fieldsWith e r (carried r)
 
 -- its bytes
 unfoldable pub messageOf : Config → Envelope → Replica → List ℕ

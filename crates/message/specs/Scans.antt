@@ -17,7 +17,6 @@ use Rattle.message.specs.declared.state.HeadRead.{HeadRead}
 use Rattle.message.specs.declared.state.RegisterRead.{RegisterRead}
 use Rattle.message.specs.declared.state.SheetRead.{SheetRead}
 use Rattle.message.specs.declared.envelope.Envelope.{Envelope}
-use Rattle.message.specs.declared.answer.Tag.{Tag}
 use Rattle.message.specs.Cursors.{start, readNumber, skip, require}
 
 -- ---- the map and bits 0 to 3
@@ -120,13 +119,11 @@ readNote msg s c = readNumber msg s 4 1 4294967295 c
 unfoldable pub endOf : Config → List ℕ → Ledger → Cursor → Cursor
 endOf c msg l note = require (aboveFloor c l) 5 (require (eqb (note .at) (length msg)) 2 note)
 
--- The number of the first fault, or 0, and what was found before it: the envelope, the register's tag and where its value lies, and the ledger.
+-- The number of the first fault, or 0, and what was found before it.
 pub record Scan : Type 0 where
   pub number : ℕ
   pub envelope : Envelope
-  pub tag : Tag
-  pub from : ℕ
-  pub length : ℕ
+  pub register : RegisterRead
   pub ledger : Ledger
 
 unfoldable pub scanOf : Config → List ℕ → Scan
@@ -138,8 +135,6 @@ scanOf c msg =
     record {
       number = endOf c msg (s .ledger) note .number;
       envelope = record { kind = h .kind; server = h .server; desk = h .desk; round = h .round; note = note .x };
-      tag = record { stamp = r .stamp; desk = r .desk };
-      from = r .from;
-      length = r .length;
+      register = r;
       ledger = s .ledger;
     }

@@ -33,7 +33,7 @@ pub struct Tag {
     pub desk: u16,
 }
 
-// The same but for the register's value, which is a part of the message.
+// What bytes say but for the register's value, which is a part of the message.
 pub struct Fields {
     pub verdict: Verdict,
     pub envelope: Envelope,

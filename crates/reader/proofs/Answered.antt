@@ -3,7 +3,7 @@ use Prim.Native.Nat.{ℕ, _+_, _≤_}
 use mathlib.Core.Path.{_≡_, sym, ap}
 use mathlib.Core.Bool.{true, false}
 use mathlib.Core.List.{List}
-use lib.ListN.{length, take, drop}
+use lib.ListN.{length}
 use borrow.Author.Tests.{eq-eqb, ne-eqb}
 use Rattle.config.specs.Cluster.{validOf}
 use Rattle.config.specs.declared.cluster.Config.{Config}
@@ -17,7 +17,7 @@ use Rattle.message.specs.Scans.{headOf, registerOf, scanOf}
 use Rattle.message.specs.declared.state.RegisterRead.{RegisterRead}
 use Rattle.message.specs.declared.answer.Received.{Received}
 use Rattle.config.specs.Refusals.{refusal}
-use Rattle.message.specs.Answers.{check, refusedOf, receiveOf, valueAnswer}
+use Rattle.message.specs.Answers.{check, valuePart, refusedOf, receiveOf, valueAnswer}
 use Rattle.message.proofs.Parts.{value-within}
 use Rattle.message.proofs.Rounds.{received}
 use Rattle.message.proofs.SheetBacks.{ledger-typed}
@@ -46,21 +46,17 @@ receive-number c msg k e n = simp (e, ne-eqb k 0 n)
 -- ---- the value, from the register
 
 module _ (c : Config) (msg : List ℕ) (r : RegisterRead) (register : r ≡ registerOf c msg (bit (headOf c msg .map) 4) (headOf c msg .cursor)) where
-  from-is : r .from ≡ scanOf c msg .from
+  scanned : r ≡ scanOf c msg .register
   unfolding scanOf
-  from-is = ap (λ (x : RegisterRead). x .from) register
-
-  length-is : r .length ≡ scanOf c msg .length
-  unfolding scanOf
-  length-is = ap (λ (x : RegisterRead). x .length) register
+  scanned = register
 
   -- it lies within the message
   pub register-within : scanOf c msg .number ≡ 0 → r .from + r .length ≤ length msg
-  register-within e = rw (from-is, length-is) (value-within c msg e)
+  register-within e = rw scanned (value-within c msg e)
 
-  pub register-value : check c msg ≡ 0 → take (r .length) (drop (r .from) msg) ≡ valueAnswer c msg
+  pub register-value : check c msg ≡ 0 → valuePart msg r ≡ valueAnswer c msg
   unfolding valueAnswer
-  register-value e = rw (from-is, length-is) (simp (eq-eqb (check c msg) 0 e))
+  register-value e = rw scanned (simp (eq-eqb (check c msg) 0 e))
 
 -- ---- weights
 

@@ -3,18 +3,15 @@ use Prim.Native.Nat.{ℕ, zero, suc, _+_, _-_, _^_, _≤_, _<_}
 use native.Mathlib.Numerals.{add-one}
 use native.Mathlib.Omega.{arith}
 use mathlib.Core.Path.{_≡_, refl, sym, ap, _∙_}
-use mathlib.Core.Bool.{Bool, true, false, cond}
 use mathlib.Core.List.{List}
-use borrow.Author.Tests.{leb-true}
-use lib.Dec.{leb}
 use lib.ListN.{length}
 use Rattle.config.specs.declared.cluster.Config.{Config}
 use Rattle.format.specs.Bytes.{bit}
 use Rattle.message.specs.declared.state.Cursor.{Cursor}
-use Rattle.message.specs.Cursors.{stay, numberAt, within, readBytes, readNumber}
+use Rattle.message.specs.Cursors.{numberAt, readBytes, readNumber}
 use Rattle.message.specs.Scans.{cellsAfter, cellRead, readCount, cellMapOf, rowCells, rowOf, rowsAfter, countRead, cellOfRow, headOf, registerOf, sheetOf, scanOf}
 use Rattle.message.proofs.Sticky.{readNumber-open, require-open, cells-open, note-open, end-open}
-use Rattle.message.proofs.Backs.{require-got}
+use Rattle.message.proofs.Backs.{number-read, require-got}
 use Rattle.reader.specs.Steps.{place}
 use Rattle.reader.proofs.Rests.{cells-before, cell-unset, rows-before, row-unset}
 
@@ -32,17 +29,7 @@ behind msg at w = record { number = 0; at = at + w; x = numberAt msg at w }
 -- a number that stands, read without a fault
 number-passed : (msg : List ℕ) (s w low high : ℕ) (c : Cursor) → s ≡ 1 → readNumber msg s w low high c .number ≡ 0
     → (readNumber msg s w low high c ≡ behind msg (c .at) w) × (c .at + w ≤ length msg)
-unfolding readNumber readBytes
-number-passed msg s w low high c stands e =
-    let none = readNumber-open msg s w low high c e in
-    rw (stands, none) (by-tests (leb (c .at + w) (length msg)) (within low high (numberAt msg (c .at) w)) refl (rw (stands, none) at e))
-  where
-    by-tests : (a b : Bool) → leb (c .at + w) (length msg) ≡ a
-        → cond a (cond b (behind msg (c .at) w) (stay 4 c)) (stay 2 c) .number ≡ 0
-        → (cond a (cond b (behind msg (c .at) w) (stay 4 c)) (stay 2 c) ≡ behind msg (c .at) w) × (c .at + w ≤ length msg)
-    by-tests true true t h = (refl, leb-true _ _ t)
-    by-tests true false t h = absurd (omega (arith, h))
-    by-tests false b t h = absurd (omega (arith, h))
+number-passed msg s w low high c stands e = let read = number-read msg s w low high c (omega arith) e in (read .is, read .fits)
 
 -- ---- cells
 

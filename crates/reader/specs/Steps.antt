@@ -1,13 +1,8 @@
--- Cursors: without a fault at a place, and after steps that read nothing. The register that was read.
+-- Cursors: without a fault at a place, and after steps that read nothing.
 use Prim.Native.Nat.{ℕ}
 use mathlib.Core.Bool.{cond}
 use lib.Dec.{ltb}
-use mathlib.Core.List.{List}
-use lib.ListN.{take, drop}
-use Rattle.replica.specs.declared.register.Register.{Register}
-use Rattle.replica.specs.Values.{valueOf}
 use Rattle.message.specs.declared.state.Cursor.{Cursor}
-use Rattle.message.specs.declared.state.RegisterRead.{RegisterRead}
 use Rattle.message.specs.Cursors.{stay}
 
 -- the cursor at a place, without a fault
@@ -17,7 +12,3 @@ place at = record { number = 0; at = at; x = 0 }
 -- the cursor after 16 steps, of which the last 16 - j read nothing
 abbrev pub settled : ℕ → Cursor → Cursor
 settled j c = cond (ltb j 16) (stay (c .number) c) c
-
--- the register that was read, with its value's part of the message
-abbrev pub keptOf : List ℕ → RegisterRead → Register
-keptOf msg r = record { stamp = r .stamp; desk = r .desk; value = valueOf (take (r .length) (drop (r .from) msg)) }

@@ -12,7 +12,7 @@ ghost use mathlib.Core.Path.{_≡_};
 ghost use Prim.Native.Nat.{_+_, _≤_};
 ghost use lib.ListN.{length};
 ghost use Rattle.message.specs.Scans.{registerOf};
-ghost use Rattle.reader.specs.Steps.{keptOf};
+ghost use Rattle.message.specs.Answers.{keptOf};
 
 pub(crate) fn read_register(config: Config, msg: &[u8], stands: u64, cursor: Cursor) -> RegisterRead
     requires { ⌜ cursor .at ≤ length (now msg) ⌝ }

@@ -39,10 +39,6 @@ byte-of v k h = table-at (v .length) (λ m. getD (v .bytes) m 0) k h
 byte-past : (v : Value) (k : ℕ) → v .length ≤ k → getD (bytesOf v) k 0 ≡ 0
 byte-past v k h = List·getD-eq-default (bytesOf v) 0 (omega (arith, bytes-length v))
 
-pub bytes-below : (v : Value) → Typed v → (k : ℕ) → getD (bytesOf v) k 0 < 256
-bytes-below v t =
-    all-below 256 (bytesOf v) (omega arith) (λ k b. omega (arith, byte-of v k (omega (arith, bytes-length v)), t .byte-fits k))
-
 -- for the functions that lend the first bytes
 pub lent-bytes : (v : Value) → Typed v → v .length ≤ 64 → take (v .length) (v .bytes) ≡ bytesOf v
 unfolding bytesOf

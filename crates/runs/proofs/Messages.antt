@@ -15,10 +15,10 @@ use Rattle.config.specs.declared.answer.Number.{Number}
 use Rattle.config.specs.declared.answer.Verdict.{Verdict}
 use Rattle.config.proofs.Clusters.{valid-bounds}
 use Rattle.ledger.specs.Checks.{aboveFloor}
-use Rattle.format.specs.Table.{Fields, encodeFields}
+use Rattle.format.specs.Table.{encodeFields}
 use Rattle.format.proofs.Same.{encode-same}
 use Rattle.format.proofs.Sizes.{fields-length}
-use Rattle.message.specs.Envelopes.{fieldsOf as programFields, messageOf, Typed as TypedEnvelope}
+use Rattle.message.specs.Envelopes.{fieldsWith as programFields, messageOf, Typed as TypedEnvelope}
 use Rattle.message.specs.Cursors.{within}
 use Rattle.message.specs.Faults.{kindFits, lawful}
 use Rattle.message.specs.Answers.{fits as room, place, between, receiveOf}
@@ -87,25 +87,9 @@ joinable-for c valid x y j =
 pub message-for : (c : Config) (m : Message) → RegisterRange c (m .replica .register) → messageOf c (envelopeFor m) (replicaFor (m .replica)) ≡ bytesOf c m
 unfolding messageOf bytesOf
 message-for c m w =
-    ap (λ v. encodeFields c (valued v)) (value-back c (m .replica .register) w)
-    ∙ encode-same c (valued (m .replica .register .value)) (fieldsOf m .count) (fieldsOf m .cell) (sheet-for (m .replica .set))
-  where
-    -- the program's fields, with the value v
-    valued : List ℕ → Fields
-    valued v =
-        let x = programFields (envelopeFor m) (replicaFor (m .replica)) in
-        record {
-          kind = x .kind;
-          server = x .server;
-          desk = x .desk;
-          round = x .round;
-          stamp = x .stamp;
-          tag-desk = x .tag-desk;
-          value = v;
-          count = x .count;
-          cell = x .cell;
-          note = x .note;
-        }
+    let x = programFields (envelopeFor m) (replicaFor (m .replica)) in
+    ap (λ v. encodeFields c (x v)) (value-back c (m .replica .register) w)
+    ∙ encode-same c (x (m .replica .register .value)) (fieldsOf m .count) (fieldsOf m .cell) (sheet-for (m .replica .set))
 
 -- no message is empty
 pub message-some : (c : Config) (m : Message) → 1 ≤ length (bytesOf c m)

@@ -16,7 +16,7 @@ ghost use Rattle.message.specs.Envelopes.{fieldsOf, messageOf};
 ghost use Rattle.message.specs.Answers.{over};
 ghost use Rattle.writer.specs.Outlines.{replicaIn};
 
-// The parts of the replica are lent one by one: taken out of a replica here, they would be copied.
+// Counts and cells are lent beside the register: taken out of a replica here, they would be copied.
 pub(crate) fn fill<'a>(
     out: &mut [u8],
     config: Config,
