@@ -61,9 +61,9 @@ static bool operation_fits(const tovridsa_operation *op, uint64_t n, uint32_t ro
 {
     if (round == 0 ? op->mode != NONE : op->mode > ENDED)
         return false;
-    if (op->mode != NONE && (op->kind < READ || op->kind > WRITE))
+    if (op->kind > WRITE || (op->mode != NONE && op->kind < READ))
         return false;
-    if (op->mode == RUNNING && (op->phase < 1 || op->phase > 2))
+    if (op->phase > 2 || (op->mode == RUNNING && op->phase < 1))
         return false;
     return op->answered >> n == 0 && op->restarts <= round && op->value.length <= VALUE_LIMIT && register_fits(&op->chosen);
 }

@@ -118,8 +118,8 @@ typedef struct tovridsa_operation {
     uint32_t mode;     /* NONE, RUNNING or ENDED */
     uint32_t note;     /* what its messages carry for the host, or 0 */
     uint32_t restarts; /* how often it started over */
-    uint16_t kind;     /* READ or WRITE */
-    uint16_t phase;    /* 1 or 2 */
+    uint16_t kind;     /* READ or WRITE; also 0 if there is no operation */
+    uint16_t phase;    /* 1 or 2; also 0 if none runs */
     uint16_t answered; /* the servers that have answered in this round: bit i, bit 0 worth 1, is server i */
     tovridsa_value value;     /* what is to be written */
     tovridsa_register chosen; /* what phase 1 chose */

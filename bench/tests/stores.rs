@@ -74,6 +74,38 @@ fn damaged_records_get_the_same_answers() {
     assert!(refused > damaged / 8, "{refused} of about {damaged}");
 }
 
+#[test]
+fn kinds_and_phases_go_with_the_mode() {
+    let mut reached = BTreeMap::new();
+    for run in 0..RUNS {
+        let mut random = Random::of_case(SEED ^ 1, run);
+        let mut trio = Trio::open(&mut random);
+        for step in 0..STEPS {
+            let words = format!("run {run}, step {step}");
+            trio.step(&mut random, &mut Tally::new(), &words);
+            let i = random.index(trio.desks.len());
+            let mut desk = trio.desks[i].core;
+            desk.operation.kind = most_often_small(&mut random);
+            desk.operation.phase = most_often_small(&mut random);
+            let fits = desk.operation.has_kind_and_phase();
+            let core = trio.on_desk(&mut random, i, &desk, &words);
+            assert_eq!(core != -1_000_001, fits, "{words}: {:?}", desk.operation);
+            *reached.entry((desk.operation.mode, fits)).or_insert(0) += 1;
+        }
+    }
+    println!("records by mode, and whether kind and phase go with it: {reached:?}");
+    assert_eq!(reached.len(), 6);
+}
+
+/// A number of 16 bits, most often 0 to 4.
+fn most_often_small(random: &mut Random) -> u16 {
+    if random.one_in(8) {
+        random.word() as u16
+    } else {
+        random.below(5) as u16
+    }
+}
+
 /// One party in three implementations.
 struct Three<C, M> {
     core: C,
@@ -365,22 +397,28 @@ impl Trio {
         let i = random.index(self.desks.len());
         let mut desk = self.desks[i].core;
         damage(random, &mut desk);
+        let dropped = self.on_desk(random, i, &desk, words);
+        u64::from(core.2.answer == -1_000_001) + u64::from(dropped == -1_000_001)
+    }
+
+    /// Each call on a record that stands for a desk, by the library, on a record that is lent, and by the C. What drop answers.
+    fn on_desk(&self, random: &mut Random, i: usize, desk: &Desk, words: &str) -> i64 {
         let line = desk_line(self.config, &self.desks[i].model.desk);
         let message = self.message(random, Party::Desk, i as u64 + 1, &line);
         let on_desk = |by: Native| {
-            let (mut begun, mut heard, mut dropped) = (desk, desk, desk);
+            let (mut begun, mut heard, mut dropped) = (*desk, *desk, *desk);
             let answers = [
                 by.begin_write(&mut begun, 9, &message[..message.len().min(70)]),
                 by.hear(&mut heard, &message),
                 by.drop(&mut dropped),
             ];
-            let asked = written(&mut [7; 1111], |out| by.ask(&desk, 0, out, 0));
-            (answers, begun, heard, dropped, asked, by.result(&desk))
+            let asked = written(&mut [7; 1111], |out| by.ask(desk, 0, out, 0));
+            (answers, begun, heard, dropped, asked, by.result(desk))
         };
         let of_desk = on_desk(CORE);
         assert!(of_desk == on_desk(PLAIN), "{words}: a damaged desk");
         assert!(of_desk == on_desk(LENT), "{words}: a damaged lent desk");
-        u64::from(core.2.answer == -1_000_001) + u64::from(of_desk.0[2] == -1_000_001)
+        of_desk.0[2]
     }
 }
 

@@ -85,18 +85,22 @@ running-later mode round e m =
 
 -- ---- kinds
 
+within-most : (low high x : ℕ) → within low high x ≡ true → leb x high ≡ true
+unfolding within
+within-most low high x e = both (leb low x) _ e .1
+
 -- the kind of an operation that runs is one
 pub kind-told : (mode kind : ℕ) → kindLawful mode kind ≡ true → mode ≡ running → within reading writing kind ≡ true
 unfolding kindLawful
 kind-told mode kind e m = rw (ne-eqb mode none (λ z. omega arith)) at e
 
--- and one that is is lawful with every mode
+-- and one that is one is lawful with every mode
 pub kind-fits : (mode kind : ℕ) → within reading writing kind ≡ true → kindLawful mode kind ≡ true
 unfolding kindLawful
 kind-fits mode kind w = by-test (eqb mode none)
   where
-    by-test : (b : Bool) → cond b true (within reading writing kind) ≡ true
-    by-test true = refl
+    by-test : (b : Bool) → cond b (leb kind writing) (within reading writing kind) ≡ true
+    by-test true = within-most reading writing kind w
     by-test false = w
 
 -- ---- answered servers

@@ -42,13 +42,13 @@ begunOperation kind value note =
 unfoldable pub modeLawful : ℕ → ℕ → Bool
 modeLawful mode round = cond (eqb round 0) (eqb mode none) (leb mode ended)
 
--- a kind is read or write where there is an operation
+-- a kind is read or write where there is an operation, and nothing above in any mode
 unfoldable pub kindLawful : ℕ → ℕ → Bool
-kindLawful mode kind = cond (eqb mode none) true (within reading writing kind)
+kindLawful mode kind = cond (eqb mode none) (leb kind writing) (within reading writing kind)
 
--- a phase is 1 or 2 where one runs
+-- a phase is 1 or 2 where one runs, and nothing above in any mode
 unfoldable pub phaseLawful : ℕ → ℕ → Bool
-phaseLawful mode phase = cond (eqb mode running) (within 1 2 phase) true
+phaseLawful mode phase = cond (eqb mode running) (within 1 2 phase) (leb phase 2)
 
 -- The record test of the operation: mode, kind and phase; answered bits below n; restarts at most the round; the value to be written and the chosen
 -- register in their ranges.

@@ -155,12 +155,12 @@ fn mode_lawful(mode: u32, round: u32) -> bool
     mode <= ENDED
 }
 
-// Whether a kind is one, where there is an operation.
+// Whether a kind is one where there is an operation, and not above them in any mode.
 fn kind_lawful(mode: u32, kind: u16) -> bool
     ensures { λ r. ⌜ r ≡ kindLawful mode kind ⌝ }
 {
     if mode == NONE {
-        return true;
+        return kind <= WRITE;
     }
     if kind < READ {
         return false;
@@ -168,12 +168,12 @@ fn kind_lawful(mode: u32, kind: u16) -> bool
     kind <= WRITE
 }
 
-// Whether a phase is 1 or 2, where an operation runs.
+// Whether a phase is 1 or 2 where an operation runs, and not above them in any mode.
 fn phase_lawful(mode: u32, phase: u16) -> bool
     ensures { λ r. ⌜ r ≡ phaseLawful mode phase ⌝ }
 {
     if mode != RUNNING {
-        return true;
+        return phase <= 2;
     }
     if phase < 1 {
         return false;

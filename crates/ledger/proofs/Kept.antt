@@ -16,10 +16,9 @@ use Rattle.ledger.specs.declared.ledger.Ledger.{Ledger}
 use Rattle.ledger.specs.Ledgers.{countOf, cellOf, givenOf, Typed}
 use Rattle.ledger.specs.Checks.{mayHold, totalFits, cellFits, rowFits, bounded}
 use Rattle.ledger.specs.Joins.{joined}
-use Rattle.ledger.specs.Changes.{roomFor, added}
+use Rattle.ledger.specs.Changes.{mostCount, added}
 use Rattle.ledger.proofs.Totals.{bounded-told, told-bounded}
 use Rattle.ledger.proofs.Unions.{joined-count, joined-cell, joined-lengths, later-first, later-second, later-either}
-use Rattle.ledger.proofs.Changes.{room-told}
 
 -- a list of n numbers has 0 past its end
 beyond : (l : List ℕ) (n k : ℕ) → length l ≡ n → n ≤ k → getD l k 0 ≡ 0
@@ -97,14 +96,11 @@ set-within l i v m most h r w = by-place (ℕ-discrete m i)
     by-place (yes e) = rw (e, getD-set-same l i v 0 h) w
     by-place (no e) = rw (getD-set-other l i m v 0 e) (r m)
 
-pub added-typed : (l : Ledger) (i j d : ℕ) → Typed l → i < 16 → j < 16 → roomFor (countOf l i) (cellOf l i j) d ≡ true → Typed (added l i j d)
+pub added-typed : (l : Ledger) (i j d : ℕ) → Typed l → i < 16 → j < 16 → countOf l i < mostCount → cellOf l i j + d ≤ 4294967295 → Typed (added l i j d)
 unfolding added
-added-typed l i j d t hi hj r = record {
+added-typed l i j d t hi hj h room = record {
   counts-length = length-set (l .counts) i (countOf l i + 1) ∙ t .counts-length;
   cells-length = length-set (l .cells) (i * 16 + j) (cellOf l i j + d) ∙ t .cells-length;
-  count-fits = λ m. set-within (l .counts) i (countOf l i + 1) m 65535 (omega (arith, t .counts-length)) (t .count-fits) (omega (arith, room .0));
-  cell-fits = λ m. set-within (l .cells) (i * 16 + j) (cellOf l i j + d) m 4294967295 (omega (arith, t .cells-length)) (t .cell-fits) (room .1);
+  count-fits = λ m. set-within (l .counts) i (countOf l i + 1) m 65535 (omega (arith, t .counts-length)) (t .count-fits) (omega (arith, h));
+  cell-fits = λ m. set-within (l .cells) (i * 16 + j) (cellOf l i j + d) m 4294967295 (omega (arith, t .cells-length)) (t .cell-fits) room;
 }
-  where
-    room : (countOf l i < 65535) × (cellOf l i j + d ≤ 4294967295)
-    room = room-told _ _ _ r

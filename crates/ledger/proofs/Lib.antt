@@ -15,6 +15,7 @@ pub mod Kept
 pub mod Compared
 pub mod Fresh
 pub mod Added
+pub mod Spared
 pub mod Cells
 pub mod Meeting
 pub mod Ranges

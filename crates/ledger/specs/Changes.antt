@@ -1,22 +1,21 @@
--- One transfer more in a ledger: count + 1, cell + amount.
+-- One transfer more in a ledger (paper 01, "Server", Transfer): 11, then 12, then 10 if the rest isn't above the floor; otherwise count + 1, cell + amount.
 use Prim.Native.Nat.{ℕ, _+_, _*_}
 use mathlib.Core.Bool.{Bool, false, cond}
 use lib.Dec.{leb, ltb, eqb}
+use lib.IntN.{pos, _-ℤ_}
 use lib.ListN.{set}
-use Rattle.config.specs.Cluster.{serverOf}
+use Rattle.config.specs.Cluster.{serverOf, aboveOf}
 use Rattle.config.specs.declared.cluster.Config.{Config}
 use Rattle.config.specs.Refusals.{refusal}
 use Rattle.ledger.specs.declared.ledger.Ledger.{Ledger}
 use Rattle.ledger.specs.declared.ledger.Changed.{Changed}
 use Rattle.ledger.specs.Ledgers.{countOf, cellOf, refused, accepted}
+use Rattle.ledger.specs.Weights.{weightOf}
+use Rattle.ledger.specs.Checks.{fits}
 
 -- whether a transfer from i to j of d is one: the taker is another server below n, and the amount is at least 1
 unfoldable pub lawful : Config → ℕ → ℕ → ℕ → Bool
 lawful c i j d = cond (eqb i j) false (cond (ltb j (c .n)) (leb 1 d) false)
-
--- whether a count and a cell have room for d more
-unfoldable pub roomFor : ℕ → ℕ → ℕ → Bool
-roomFor count cell d = cond (ltb count 65535) (leb (cell + d) 4294967295) false
 
 -- the ledger with one transfer more
 unfoldable pub added : Ledger → ℕ → ℕ → ℕ → Ledger
@@ -25,11 +24,22 @@ added l i j d = record {
   cells = set (l .cells) (i * 16 + j) (cellOf l i j + d);
 }
 
--- What the call answers: 1, 11, 12, or the ledger with the transfer. A refusal leaves the ledger as it was.
+-- the last number of a giver's transfers
+abbrev pub mostCount : ℕ
+mostCount = 65535
+
+-- whether what server i keeps of its weight, once it has given d, is above the floor
+unfoldable pub spares : Config → Ledger → ℕ → ℕ → Bool
+spares c l i d = aboveOf c (weightOf c l i -ℤ pos d)
+
+-- the tests of a transfer on a ledger that fits; a refusal leaves the ledger as it was
+unfoldable pub giveAnswer : Config → Ledger → ℕ → ℕ → ℕ → Changed
+giveAnswer c l i j d =
+    cond (lawful c i j d)
+    (cond (ltb (countOf l i) mostCount) (cond (spares c l i d) (accepted (added l i j d)) (refused (refusal 10) l)) (refused (refusal 12) l))
+    (refused (refusal 11) l)
+
+-- What the call answers: 1 for the cluster, for a giver that there isn't and for a ledger that is out of range or light, then 11, 12, 10, or the
+-- ledger with the transfer.
 unfoldable pub addAnswer : Config → Ledger → ℕ → ℕ → ℕ → Changed
-addAnswer c l i j d =
-    cond (serverOf c i)
-    (cond (lawful c i j d)
-    (cond (roomFor (countOf l i) (cellOf l i j) d) (accepted (added l i j d)) (refused (refusal 12) l))
-    (refused (refusal 11) l))
-    (refused (refusal 1) l)
+addAnswer c l i j d = cond (serverOf c i) (cond (fits c l) (giveAnswer c l i j d) (refused (refusal 1) l)) (refused (refusal 1) l)

@@ -45,6 +45,10 @@ bounded c l = cond (all 256 (cellFits (c .n) l)) (all 16 (rowFits l)) false
 unfoldable pub aboveFloor : Config → Ledger → Bool
 aboveFloor c l = all (c .n) (serverAbove c l)
 
+-- whether a party may hold or send the ledger
+unfoldable pub fits : Config → Ledger → Bool
+fits c l = cond (bounded c l) (aboveFloor c l) false
+
 -- What the calls answer: 1 for the cluster, 4 for a range, 5 for the floor.
 
 unfoldable pub boundsAnswer : Config → Ledger → Verdict

@@ -1,32 +1,48 @@
-// One transfer more in a ledger. Whether the giver can spare the amount is the server's to say: here only the record's own limits count.
+// One transfer more in a ledger (paper 01, "Server": Transfer).
+use super::balance::balance_of;
 use super::ledger::Changed;
 use super::ledger::Ledger;
-use super::ledger::wide;
 use config::Config;
+use config::Number;
 use config::Refusal;
 use config::Verdict;
 ghost use mathlib.Core.Path.{_≡_};
-ghost use Rattle.ledger.specs.Changes.{lawful as lawfulOf, roomFor as roomOf, addAnswer};
+ghost use mathlib.Core.Bool.{true};
+ghost use mathlib.Core.List.{[]};
+ghost use lib.ListN.{length};
+ghost use Rattle.config.specs.Cluster.{serverOf};
+ghost use Rattle.ledger.specs.Ledgers.{ledgerOf};
+ghost use Rattle.ledger.specs.Checks.{aboveFloor};
+ghost use Rattle.ledger.specs.Changes.{lawful as lawfulOf, spares as sparesOf, addAnswer};
+
+// The last number of a giver's transfers.
+const MOST_COUNT: u16 = 65535;
 
 impl Ledger {
-    // The ledger with a transfer of `amount` from `giver` to `taker` added: 1 for the cluster or a giver ≥ n, 11 for a taker that is the giver
-    // or ≥ n or an amount of 0, and 12 where the count or the cell is at its end.
+    // The ledger with a transfer of `amount` from `giver` to `taker` added: 1 for the cluster, a giver ≥ n, or a ledger out of range or light; 11 for a
+    // taker that is the giver or ≥ n or an amount of 0; 12 where the giver's count is at its end; 10 where the rest of its weight isn't above the floor.
     pub fn add(self, config: Config, giver: u64, taker: u64, amount: u64) -> Changed
         ensures { λ r. ⌜ r ≡ addAnswer config self giver taker amount ⌝ }
     {
         if !config.has(giver) {
             return self.refused(Refusal::BadHouse);
         }
+        let Verdict::Accepted = self.check(config) else {
+            return self.refused(Refusal::BadHouse);
+        };
         if !lawful(config, giver, taker, amount) {
             return self.refused(Refusal::BadTransfer);
         }
         let i = giver as usize;
-        let at = i * 16 + taker as usize;
         let count = self.counts[i];
-        let cell = self.cells[at];
-        if !room_for(count, cell, amount) {
+        if count == MOST_COUNT {
             return self.refused(Refusal::Spent);
         }
+        if !spares(&self.cells, config, giver, amount) {
+            return self.refused(Refusal::Thin);
+        }
+        let at = i * 16 + taker as usize;
+        let cell = self.cells[at];
         let mut next = self;
         next.counts[i] = count + 1;
         next.cells[at] = cell + amount as u32;
@@ -38,7 +54,7 @@ impl Ledger {
 }
 
 // Whether the taker is another server of the cluster and something is given.
-pub fn lawful(config: Config, giver: u64, taker: u64, amount: u64) -> bool
+fn lawful(config: Config, giver: u64, taker: u64, amount: u64) -> bool
     ensures { λ r. ⌜ r ≡ lawfulOf config giver taker amount ⌝ }
 {
     if giver == taker {
@@ -50,12 +66,14 @@ pub fn lawful(config: Config, giver: u64, taker: u64, amount: u64) -> bool
     0 < amount
 }
 
-// Whether a count and a cell have room for one transfer more.
-fn room_for(count: u16, cell: u32, amount: u64) -> bool
-    ensures { λ r. ⌜ r ≡ roomOf count cell amount ⌝ }
+// Whether a server is still above the floor once it has given `amount`, by the cells of a ledger on which every weight is above it.
+fn spares(cells: &[u32], config: Config, server: u64, amount: u64) -> bool
+    requires { ⌜ (length (now cells) ≡ 256) × (serverOf config server ≡ true) × (aboveFloor config (ledgerOf [] (now cells)) ≡ true) ⌝ }
+    ensures { λ r. ⌜ r ≡ sparesOf config (ledgerOf [] (now (cells .entry))) server amount ⌝ }
 {
-    if count == 65535 {
+    let Number::Value(least) = config.least() else {
         return false;
-    }
-    amount <= 4294967295 - wide(cell)
+    };
+    let b = balance_of(cells, config, server);
+    amount <= b.held - b.given - least
 }

@@ -12,7 +12,7 @@ ghost use lib.ListN.{length, getD};
 ghost use Rattle.quorums.specs.Sum.{all};
 ghost use Rattle.ledger.specs.Tables.{table};
 ghost use Rattle.ledger.specs.Ledgers.{ledgerOf};
-ghost use Rattle.ledger.specs.Joins.{agree as agreeOf, joins as joinsOf, later as laterOf, laterAt, largerAt, joinAnswer, mergeAnswer, sameCountAt, sameCellAt, equal as equalOf, lacks as lacksOf};
+ghost use Rattle.ledger.specs.Joins.{agree as agreeOf, joins as joinsOf, later as laterOf, laterAt, largerAt, joinAnswer, mergeAnswer, equal as equalOf, lacks as lacksOf};
 
 impl Ledger {
     // Both ledgers together: of each giver the row with the larger count, which is this ledger where the other has nothing more. 6, and this ledger as it
@@ -66,40 +66,17 @@ impl Ledger {
         }
     }
 
-    // Whether both ledgers are the same.
+    // Whether both ledgers are the same: neither lacks a transfer of the other, and their rows agree.
     pub fn equal(self, other: Ledger) -> bool
         ensures { λ r. ⌜ r ≡ equalOf self other ⌝ }
     {
-        if !self.same_counts(other) {
+        if self.lacks(other) {
             return false;
         }
-        self.same_cells(other)
-    }
-
-    fn same_counts(self, other: Ledger) -> bool
-        ensures { λ r. ⌜ r ≡ all 16 (sameCountAt self other) ⌝ }
-    {
-        let mut i: usize = 0;
-        while i < 16 {
-            if self.counts[i] != other.counts[i] {
-                return false;
-            }
-            i += 1;
+        if other.lacks(self) {
+            return false;
         }
-        true
-    }
-
-    fn same_cells(self, other: Ledger) -> bool
-        ensures { λ r. ⌜ r ≡ all 256 (sameCellAt self other) ⌝ }
-    {
-        let mut k: usize = 0;
-        while k < 256 {
-            if self.cells[k] != other.cells[k] {
-                return false;
-            }
-            k += 1;
-        }
-        true
+        joins(&self.counts, &self.cells, &other.counts, &other.cells)
     }
 
     // Whether this ledger lacks a transfer of the other, which then has more.
@@ -121,7 +98,12 @@ impl Ledger {
 
 // Whether rows with equal counts are equal, and no cell of a later row is smaller. Ledgers are lent as their counts and cells, since a copy of one takes
 // longer than a row.
-fn joins(counts: &[u16], cells: &[u32], other_counts: &[u16], other_cells: &[u32]) -> bool
+fn joins<'a, 'b>(
+    counts: &'a [u16],
+    cells: &'a [u32],
+    other_counts: &'b [u16],
+    other_cells: &'b [u32],
+) -> bool
     requires { ⌜ (length (now counts) ≡ 16) × (length (now cells) ≡ 256) × (length (now «other_counts») ≡ 16) × (length (now «other_cells») ≡ 256) ⌝ }
     ensures { λ r. ⌜ r ≡ joinsOf (ledgerOf (now (counts .entry)) (now (cells .entry))) (ledgerOf (now («other_counts» .entry)) (now («other_cells» .entry))) ⌝ }
 {

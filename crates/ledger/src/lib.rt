@@ -7,7 +7,6 @@ mod ledger;
 mod map;
 mod weight;
 
-pub use change::lawful;
 pub use check::total_fits;
 pub use ledger::Changed;
 pub use ledger::Ledger;

@@ -12,11 +12,11 @@ use Rattle.config.specs.Cluster.{validOf}
 use Rattle.config.specs.declared.cluster.Config.{Config}
 use Rattle.config.specs.Refusals.{refusal}
 use Rattle.config.proofs.Clusters.{valid-server}
-use Rattle.ledger.specs.Changes.{lawful}
+use Rattle.ledger.specs.Changes.{lawful, spares}
 use Rattle.message.specs.Answers.{fits as room}
 use Rattle.server.specs.declared.record.Server.{Server}
 use Rattle.server.specs.Servers.{fits, accepted, refused}
-use Rattle.server.specs.Transfers.{spares, gave, giveOf, transferOf}
+use Rattle.server.specs.Transfers.{gave, giveOf, transferOf}
 use Rattle.server.specs.Shares.{shareOf}
 use Rattle.server.specs.Serves.{stray, clashes, joinedServer, replyMessage, replyOf, serveFields, serveOf}
 use Rattle.server.proofs.Servers.{told-fits}

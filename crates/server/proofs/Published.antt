@@ -12,12 +12,12 @@ use Rattle.config.specs.declared.answer.Verdict.{Verdict}
 use Rattle.ledger.specs.Ledgers.{countOf, accountsOf}
 use Rattle.ledger.specs.Maps.{named}
 use Rattle.ledger.specs.Weights.{weightOf, quorumOf}
-use Rattle.ledger.specs.Changes.{lawful}
+use Rattle.ledger.specs.Changes.{lawful, mostCount, spares}
 use Rattle.ledger.proofs.Checks.{accepted-not-refused}
 use Rattle.ledger.proofs.Published.{quorum-majority, integrity, gift-line}
 use Rattle.server.specs.declared.record.Server.{Server}
 use Rattle.server.specs.Servers.{fits, refused}
-use Rattle.server.specs.Transfers.{mostCount, spares, transferOf}
+use Rattle.server.specs.Transfers.{transferOf}
 use Rattle.server.proofs.Transfers.{standing, transfer-done, transfer-unspared, transfer-cases}
 
 -- what a server can spare is what line 12 lets through

@@ -1,108 +1,32 @@
--- Transfers: what a server can spare is small enough for its ledger, and a transfer keeps the record one that a party may hold.
-use Prim.Native.Nat.{ℕ, _+_, _-_, _≤_, _<_}
-use native.Mathlib.Decide.{ℕ-discrete}
+-- Transfers: their tests are those of `add` on the server's ledger, and a transfer keeps the record one that a party may hold.
+use Prim.Native.Nat.{ℕ, _+_, _≤_, _<_}
 use native.Mathlib.Omega.{arith}
-use mathlib.Core.Path.{_≡_, refl, sym, ap, _∙_}
-use mathlib.Core.Logic.{⊎-elim}
-use mathlib.Core.Bool.{Bool, true, false, cond}
-use borrow.Author.Tests.{lt-ltb, le-ltb, le-leb, lt-leb, leb-true, ltb-true}
-use lib.Dec.{leb, ltb}
-use lib.IntN.{pos, _+ℤ_}
-use Rattle.quorums.specs.Accounts.{held, weight, above}
-use Rattle.quorums.proofs.Sums.{sum-add, sum-zero, sum-rest, all-each, each-all}
-use Rattle.quorums.proofs.Tests.{le-or-lt}
-use Rattle.quorums.proofs.Differences.{difference-up, difference-less, difference-more}
-use Rattle.quorums.proofs.Weights.{above-grows}
-use Rattle.config.specs.Cluster.{validOf, startOf, totalOf, aboveOf, leastOf, mostWeight}
-use Rattle.config.specs.declared.cluster.Config.{Config}
+use mathlib.Core.Path.{_≡_, refl}
+use mathlib.Core.Bool.{Bool, true, false, cond, false≢true}
+use borrow.Author.Tests.{lt-ltb, le-ltb, ltb-true}
+use lib.Dec.{ltb}
+use Rattle.config.specs.Cluster.{validOf, serverOf, mostWeight}
 use Rattle.config.specs.Refusals.{refusal}
 use Rattle.config.specs.declared.answer.Refusal.{Refusal}
 use Rattle.config.specs.declared.answer.Verdict.{Verdict}
-use Rattle.config.proofs.Clusters.{valid-bounds, server-valid, server-small, total-small, above-least}
-use Rattle.ledger.specs.declared.ledger.Ledger.{Ledger}
-use Rattle.ledger.specs.Ledgers.{countOf, cellOf, givenOf, receivedOf, accountsOf, Typed as TypedLedger}
-use Rattle.ledger.specs.Weights.{weightOf}
-use Rattle.ledger.specs.Checks.{rowFits, serverAbove, bounded, aboveFloor}
-use Rattle.ledger.specs.Changes.{lawful, roomFor, added}
+use Rattle.config.proofs.Clusters.{valid-bounds, server-valid, server-small}
+use Rattle.ledger.specs.declared.ledger.Changed.{Changed}
+use Rattle.ledger.specs.Ledgers.{countOf, cellOf, accepted as added-ledger, refused as same-ledger}
+use Rattle.ledger.specs.Checks.{bounded, aboveFloor, fits as fitsLedger}
+use Rattle.ledger.specs.Changes.{lawful, mostCount, spares, added, giveAnswer, addAnswer}
 use Rattle.ledger.proofs.Checks.{accepted-not-refused}
 use Rattle.ledger.proofs.Changes.{lawful-told}
-use Rattle.ledger.proofs.Totals.{bounded-told, total-fits-told, received-given}
-use Rattle.ledger.proofs.Majorities.{each-above}
 use Rattle.ledger.proofs.Kept.{added-typed}
-use Rattle.ledger.proofs.Added.{added-bounded, giver-weight, taker-weight, other-weight}
+use Rattle.ledger.proofs.Added.{added-bounded}
+use Rattle.ledger.proofs.Spared.{spared-small, spared-room, added-above}
+use Rattle.replica.specs.Registers.{registerFits}
+use Rattle.replica.specs.Replicas.{fits as fitsReplica}
 use Rattle.replica.proofs.Replicas.{Fits as Holds, fits-told as holds-told, told-fits as told-holds}
 use Rattle.server.specs.declared.record.Server.{Server}
 use Rattle.server.specs.declared.record.ServerAnswer.{ServerAnswer}
-use Rattle.server.specs.Servers.{fits, accepted, refused, Typed}
-use Rattle.server.specs.Transfers.{mostCount, spares, gave, giveOf, transferOf}
+use Rattle.server.specs.Servers.{fits, holding, accepted, refused, Typed}
+use Rattle.server.specs.Transfers.{gave, giveOf, transferOf}
 use Rattle.server.proofs.Servers.{fits-told, told-fits}
-
--- ---- what a server can spare
-
--- the test, in plain numbers: the gift and the least weight on top of what was given
-pub spares-is : (c : Config) (l : Ledger) (i d : ℕ) → validOf c ≡ true → spares c l i d ≡ leb (givenOf l i + d + leastOf c) (startOf c i + receivedOf l i)
-unfolding spares weightOf weight
-spares-is c l i d v =
-    ap (aboveOf c) (difference-less (startOf c i + receivedOf l i) (givenOf l i) d)
-    ∙ above-least c (startOf c i + receivedOf l i) (givenOf l i + d) v
-
--- the same of a weight above the floor
-pub above-told : (c : Config) (l : Ledger) (i : ℕ) → validOf c ≡ true → aboveFloor c l ≡ true → i < c .n → givenOf l i + leastOf c ≤ startOf c i + receivedOf l i
-unfolding weightOf weight
-above-told c l i v a h =
-    leb-true _ _ (sym (above-least c (startOf c i + receivedOf l i) (givenOf l i) v) ∙ each-above c l a i h)
-
--- such a weight is a plain number
-pub weight-up : (c : Config) (l : Ledger) (i : ℕ) → validOf c ≡ true → aboveFloor c l ≡ true → i < c .n
-    → weightOf c l i ≡ pos (startOf c i + receivedOf l i - givenOf l i)
-unfolding weightOf weight
-weight-up c l i v a h = difference-up (startOf c i + receivedOf l i) (givenOf l i) (omega (arith, above-told c l i v a h))
-
--- and what it spares is what it is above the least weight, as the program tests it
-pub spares-rest : (c : Config) (l : Ledger) (i d : ℕ) → validOf c ≡ true → aboveFloor c l ≡ true → i < c .n
-    → leb d (startOf c i + receivedOf l i - givenOf l i - leastOf c) ≡ spares c l i d
-spares-rest c l i d v a h =
-    rest (startOf c i + receivedOf l i) (givenOf l i) (leastOf c) (above-told c l i v a h) ∙ sym (spares-is c l i d v)
-  where
-    rest : (x y z : ℕ) → y + z ≤ x → leb d (x - y - z) ≡ leb (y + d + z) x
-    rest x y z m =
-        ⊎-elim (λ (k : y + d + z ≤ x). le-leb d _ (omega arith) ∙ sym (le-leb _ _ k)) (λ (k : x < y + d + z). lt-leb d _ (omega arith) ∙ sym (lt-leb _ _ k))
-        (le-or-lt (y + d + z) x)
-
--- No server weighs more than all start weights together, since none is negative and together they weigh that.
-pub weight-small : (c : Config) (l : Ledger) (i : ℕ) → validOf c ≡ true → bounded c l ≡ true → aboveFloor c l ≡ true → i < c .n
-    → startOf c i + receivedOf l i ≤ givenOf l i + totalOf c
-unfolding totalOf
-weight-small c l i v b a h =
-    omega (
-      arith,
-      sum-rest (c .n) (givenOf l) (held (accountsOf c l)) (λ k m. omega (arith, above-told c l k v a m)) i h,
-      sum-add (c .n) (startOf c) (receivedOf l),
-      received-given c l v b,
-    )
-
--- A gift that leaves a weight above the floor is at most all weight.
-pub spared-small : (c : Config) (l : Ledger) (i d : ℕ) → validOf c ≡ true → bounded c l ≡ true → aboveFloor c l ≡ true → i < c .n
-    → spares c l i d ≡ true → d ≤ mostWeight
-spared-small c l i d v b a h e =
-    let kept : givenOf l i + d + leastOf c ≤ startOf c i + receivedOf l i = leb-true _ _ (sym (spares-is c l i d v) ∙ e) in
-    omega (arith, weight-small c l i v b a h, total-small c v)
-
--- a cell is at most its row's total
-cell-small : (l : Ledger) (i j : ℕ) → j < 16 → cellOf l i j ≤ givenOf l i
-unfolding givenOf
-cell-small l i j h =
-    omega (arith, sum-rest 16 (λ k. 0) (λ k. cellOf l i k) (λ k m. omega arith) j h, sum-zero 16 (λ k. 0) (λ k m. refl))
-
--- a gift of at most all weight has room in a ledger within bounds, where the count does
-small-room : (c : Config) (l : Ledger) (i j d : ℕ) → bounded c l ≡ true → i < 16 → j < 16 → countOf l i < mostCount → d ≤ mostWeight
-    → roomFor (countOf l i) (cellOf l i j) d ≡ true
-unfolding roomFor
-small-room c l i j d b hi hj h s =
-    let t = total-fits-told (countOf l i) (givenOf l i) (all-each 16 (rowFits l) (bounded-told c l b .1) i hi) in
-    let counted : countOf l i < 65535 = omega (arith, h) in
-    let fitting : cellOf l i j + d ≤ 4294967295 = omega (arith, t .1, cell-small l i j hj) in
-    rw (lt-ltb _ _ counted) (le-leb _ _ fitting)
 
 -- ---- a server that fits
 
@@ -129,17 +53,6 @@ pub gift-small : (s : Server) (d : ℕ) → fits s ≡ true → spares (s .confi
 gift-small s d e p =
     let t = standing s e in
     spared-small (s .config) (s .replica .ledger) (s .number) d (t .valid) (t .held .ledger-bounded) (t .held .ledger-above) (t .one-of) p
-
--- and has room in its ledger
-pub gift-room : (s : Server) (j d : ℕ) → fits s ≡ true → lawful (s .config) (s .number) j d ≡ true
-    → countOf (s .replica .ledger) (s .number) < mostCount
-    → spares (s .config) (s .replica .ledger) (s .number) d ≡ true
-    → roomFor (countOf (s .replica .ledger) (s .number)) (cellOf (s .replica .ledger) (s .number) j) d ≡ true
-gift-room s j d e w h p =
-    let t = standing s e in
-    let k = lawful-told (s .config) (s .number) j d w in
-    small-room (s .config) (s .replica .ledger) (s .number) j d (t .held .ledger-bounded) (t .small)
-    (omega (arith, k .1, valid-bounds (s .config) (t .valid) .most)) h (gift-small s d e p)
 
 -- ---- what a transfer comes to
 
@@ -202,33 +115,62 @@ pub transfer-refused : (s : Server) (j d : ℕ) (k : Refusal) → transferOf s j
 transfer-refused s j d k =
     transfer-cases (λ r. r .verdict ≡ Verdict.Refused k → r .server ≡ s) s j d (λ e g t. accepted-not-refused k t) (λ r t. refl)
 
+-- ---- a transfer is `add` on the server's ledger
+
+-- the server with what `add` hands back, which is its own ledger where it refuses
+abbrev pub changedTo : Server → Changed → ServerAnswer
+changedTo s x = record { verdict = x .verdict; server = holding s (record { ledger = x .ledger; register = s .replica .register }) }
+
+give-adds : (s : Server) (j d : ℕ) → giveOf s j d ≡ changedTo s (giveAnswer (s .config) (s .replica .ledger) (s .number) j d)
+unfolding giveOf giveAnswer
+give-adds s j d =
+    by-tests (lawful (s .config) (s .number) j d) (ltb (countOf (s .replica .ledger) (s .number)) mostCount)
+    (spares (s .config) (s .replica .ledger) (s .number) d)
+  where
+    by-tests : (w t p : Bool)
+        → cond w (cond t (cond p (accepted (gave s j d)) (refused (refusal 10) s)) (refused (refusal 12) s)) (refused (refusal 11) s)
+        ≡ changedTo s (cond w (cond t (cond p (added-ledger (added (s .replica .ledger) (s .number) j d)) (same-ledger (refusal 10) (s .replica .ledger))) (same-ledger (refusal 12) (s .replica .ledger))) (same-ledger (refusal 11) (s .replica .ledger)))
+    by-tests true true true = refl
+    by-tests true true false = refl
+    by-tests true false p = refl
+    by-tests false t p = refl
+
+-- The tests of a transfer are the register's, and those of `add`.
+pub transfer-adds : (s : Server) (j d : ℕ)
+    → transferOf s j d
+    ≡ cond (registerFits (s .config) (s .replica .register)) (changedTo s (addAnswer (s .config) (s .replica .ledger) (s .number) j d)) (refused (refusal 1) s)
+unfolding transferOf addAnswer fits fitsReplica fitsLedger
+transfer-adds s j d =
+    rw (give-adds s j d)
+    (by-tests (serverOf (s .config) (s .number)) (validOf (s .config)) (bounded (s .config) (s .replica .ledger)) (aboveFloor (s .config) (s .replica .ledger))
+    (registerFits (s .config) (s .replica .register)) (giveAnswer (s .config) (s .replica .ledger) (s .number) j d) (λ e. server-valid _ _ e .0))
+  where
+    by-tests : (o v b a g : Bool) (x : Changed) → (o ≡ true → v ≡ true)
+        → cond (cond o (cond v (cond b (cond a g false) false) false) false) (changedTo s x) (refused (refusal 1) s)
+        ≡ cond g (changedTo s (cond o (cond (cond b a false) x (same-ledger (refusal 1) (s .replica .ledger))) (same-ledger (refusal 1) (s .replica .ledger)))) (refused (refusal 1) s)
+    by-tests true true true true true x h = refl
+    by-tests true true true true false x h = refl
+    by-tests true true true false true x h = refl
+    by-tests true true true false false x h = refl
+    by-tests true true false a true x h = refl
+    by-tests true true false a false x h = refl
+    by-tests true false b a g x h = absurd (false≢true (h refl))
+    by-tests false v b a true x h = refl
+    by-tests false v b a false x h = refl
+
 -- ---- what a transfer keeps
+
+-- the cell has room
+gift-room : (s : Server) (j d : ℕ) → fits s ≡ true → Gives s j d → cellOf (s .replica .ledger) (s .number) j + d ≤ 4294967295
+gift-room s j d e g =
+    let t = standing s e in
+    spared-room (s .config) (s .replica .ledger) (s .number) j d (t .valid) (t .held .ledger-bounded) (t .held .ledger-above) (t .one-of)
+    (lawful-told (s .config) (s .number) j d (g .legal) .1) (g .counted) (g .spared)
 
 -- the taker is one of the servers
 taker-small : (s : Server) (j d : ℕ) → fits s ≡ true → Gives s j d → j < 16
 taker-small s j d e g =
     omega (arith, lawful-told (s .config) (s .number) j d (g .legal) .1, valid-bounds (s .config) (standing s e .valid) .most)
-
--- a weight above the floor stays so with more
-more-above : (c : Config) (l : Ledger) (i d : ℕ) → aboveOf c (weightOf c l i) ≡ true → aboveOf c (weightOf c l i +ℤ pos d) ≡ true
-unfolding aboveOf weightOf weight
-more-above c l i d e =
-    let x = startOf c i + receivedOf l i in
-    ap (above (c .n) (c .f) (totalOf c)) (difference-more x (givenOf l i) d)
-    ∙ above-grows (c .n) (c .f) (totalOf c) x (givenOf l i) (x + d) (givenOf l i) (omega arith) (omega arith) e
-
--- the giver keeps enough, the taker has more, and no other weight changes
-added-above : (c : Config) (l : Ledger) (i j d : ℕ) → TypedLedger l → i < 16 → j < 16 → c .n ≤ 16 → (i ≡ j → ⊥) → aboveFloor c l ≡ true
-    → spares c l i d ≡ true
-    → aboveFloor c (added l i j d) ≡ true
-unfolding aboveFloor spares
-added-above c l i j d t hi hj hn ne a p =
-    each-all (c .n) (serverAbove c (added l i j d)) (λ k h. one k h (ℕ-discrete k i) (ℕ-discrete k j))
-  where
-    one : (k : ℕ) → k < c .n → Dec (k ≡ i) → Dec (k ≡ j) → aboveOf c (weightOf c (added l i j d) k) ≡ true
-    one k h (yes e) q = rw e (ap (aboveOf c) (giver-weight l i j d t hi hj c ne) ∙ p)
-    one k h (no e) (yes q) = rw q (ap (aboveOf c) (taker-weight l i j d t hi hj c ne) ∙ more-above c l j d (each-above c l a j (omega (arith, h))))
-    one k h (no e) (no q) = ap (aboveOf c) (other-weight l i j d t hi hj c k (omega arith) e q) ∙ each-above c l a k h
 
 gave-fits : (s : Server) (j d : ℕ) → Typed s → fits s ≡ true → Gives s j d → fits (gave s j d) ≡ true
 gave-fits s j d t e g =
@@ -262,7 +204,7 @@ transfer-typed s j d t = transfer-cases (λ r. Typed (r .server)) s j d given (�
       f-fits = t .f-fits;
       number-fits = t .number-fits;
       replica-typed = record {
-        ledger-typed = added-typed (s .replica .ledger) (s .number) j d (t .replica-typed .ledger-typed) (standing s e .small) (taker-small s j d e g) (gift-room s j d e (g .legal) (g .counted) (g .spared));
+        ledger-typed = added-typed (s .replica .ledger) (s .number) j d (t .replica-typed .ledger-typed) (standing s e .small) (taker-small s j d e g) (g .counted) (gift-room s j d e g);
         register-typed = t .replica-typed .register-typed;
       };
     }

@@ -3,7 +3,7 @@
 use Prim.Native.Nat.{ℕ}
 use mathlib.Core.Path.{_≡_, refl}
 use mathlib.Core.List.{List, [], _∷_, _++_}
-use lib.ListN.{replicate, set}
+use lib.ListN.{replicate}
 use Rattle.quorums.specs.Sum.{sum, all}
 use Rattle.quorums.specs.Difference.{difference}
 use Rattle.quorums.specs.Accounts.{weight, above}
@@ -14,7 +14,7 @@ use Rattle.config.specs.declared.answer.Number.{Number}
 use Rattle.ledger.specs.Ledgers.{freshLedger, givenOf, receivedOf}
 use Rattle.ledger.specs.Weights.{weightOf}
 use Rattle.ledger.specs.Checks.{mayHold, totalFits, bounded, aboveFloor}
-use Rattle.ledger.specs.Changes.{lawful, added}
+use Rattle.ledger.specs.Changes.{lawful, spares, added}
 use Rattle.ledger.specs.Tables.{run, table}
 use Rattle.format.specs.Bytes.{bytes, number, series, stands, marks}
 use Rattle.format.specs.Table.{registerMark, register, cellMap, cells, rowMark, row, rowMap, rows, sheet, fieldMap, fieldMapOf, head, note, encodeFields}
@@ -25,23 +25,17 @@ use Rattle.replica.specs.Registers.{startRegister, isStart, registerFits}
 use Rattle.replica.specs.Replicas.{fits as fitsReplica}
 use Rattle.server.specs.declared.record.Server.{Server}
 use Rattle.server.specs.Servers.{fits, accepted, refused, freshServer, blankServer, openOf}
-use Rattle.server.specs.Transfers.{spares, giveOf, transferOf}
+use Rattle.server.specs.Transfers.{giveOf, transferOf}
 use Rattle.server.specs.Shares.{shareOf}
-use Rattle.worked.proofs.Refusals.{most, five}
+use Rattle.worked.proofs.Refusals.{most, five, exchange}
 
 -- server 0 of five
 abbrev fresh : Server
 fresh = freshServer five 0
 
--- 0 gave 1 to server 1 a times, and 1 gave 1 to server 0 b times
+-- the same after 0 gave 1 to server 1 a times, and 1 gave 1 to server 0 b times
 abbrev exchanged : ℕ → ℕ → Server
-exchanged a b =
-    record {
-      config = five;
-      number = 0;
-      replica =
-          record { ledger = record { counts = a ∷ b ∷ replicate 14 0; cells = set (set (replicate 256 0) 1 a) 16 b }; register = startRegister };
-    }
+exchanged a b = record { config = five; number = 0; replica = record { ledger = exchange a b; register = startRegister } }
 
 -- records that break the bounds: server 5 of five; 3 gave 375 and is at the floor; a desk's tag without a stamp
 

@@ -21,9 +21,9 @@ use Rattle.ledger.specs.Weights.{weightOf, quorumOf, quorumAnswer}
 use Rattle.ledger.specs.Checks.{mayHold, totalFits, bounded, aboveFloor}
 use Rattle.ledger.specs.Tables.{run, table}
 use Rattle.ledger.specs.Joins.{agree, later, joins, joined, joinAnswer}
-use Rattle.ledger.specs.Changes.{lawful, roomFor, added}
+use Rattle.ledger.specs.Changes.{lawful, spares, added}
 use Rattle.ledger.proofs.Kept.{added-typed}
-use Rattle.ledger.proofs.Fresh.{fresh-typed}
+use Rattle.ledger.proofs.Fresh.{fresh-typed, fresh-count, fresh-cell}
 use Rattle.format.specs.Bytes.{bytes, number, series, stands, marks, bit}
 use Rattle.format.specs.Table.{registerMark, register, cellMap, cells, rowMark, row, rowMap, rows, sheet, fieldMap, fieldMapOf, head, note, encodeFields}
 use Rattle.message.specs.Envelopes.{messageOf}
@@ -35,7 +35,7 @@ use Rattle.replica.specs.Registers.{isStart, registerFits}
 use Rattle.replica.specs.Replicas.{fits as fitsReplica}
 use Rattle.server.specs.declared.record.ServerAnswer.{ServerAnswer}
 use Rattle.server.specs.Servers.{fits, openOf}
-use Rattle.server.specs.Transfers.{spares, giveOf, transferOf}
+use Rattle.server.specs.Transfers.{giveOf, transferOf}
 use Rattle.server.specs.Shares.{shareOf}
 use Rattle.seats.specs.Offers.{freeIn, offered, offerAnswer}
 use Rattle.worked.proofs.Refusals.{five}
@@ -135,32 +135,34 @@ record Computed (j : ℕ) : Type 0 where
   pub sound-bytes : messageOf five (share 1) (sheet-only (after-gift j)) ≡ sound-share j
   pub light-fault : faultOf five (share 1) (sheet-only (alone j)) ≡ 5
   pub sound-fault : faultOf five (share 1) (sheet-only (after-gift j)) ≡ 0
-  pub light-room : roomFor 0 (cellOf freshLedger 1 j) 748 ≡ true
-  pub sound-room : roomFor (countOf (added freshLedger 0 1 374) 1) (cellOf (added freshLedger 0 1 374) 1 j) 748 ≡ true
+  pub sound-count : countOf (added freshLedger 0 1 374) 1 ≡ 0
+  pub sound-cell : cellOf (added freshLedger 0 1 374) 1 j ≡ 0
 
 computed : (j : ℕ) → j < 5 → (j ≡ 1 → ⊥) → Computed j
 unfolding messageOf bytesOf table run encodeFields fieldMapOf fieldMap head register registerMark sheet rows row cells cellMap rowMark rowMap note number series marks stands bytes
-    sum all stampBytes added roomFor validOf faultOf kindFits registerFits isStart within bounded mayHold totalFits aboveFloor aboveOf above totalOf startOf weightOf
+    sum all stampBytes added validOf faultOf kindFits registerFits isStart within bounded mayHold totalFits aboveFloor aboveOf above totalOf startOf weightOf
     weight difference givenOf receivedOf
-computed zero l d = record { light-bytes = refl; sound-bytes = refl; light-fault = refl; sound-fault = refl; light-room = refl; sound-room = refl }
+computed zero l d = record { light-bytes = refl; sound-bytes = refl; light-fault = refl; sound-fault = refl; sound-count = refl; sound-cell = refl }
 computed (suc zero) l d = absurd (d refl)
 computed (suc (suc zero)) l d =
-    record { light-bytes = refl; sound-bytes = refl; light-fault = refl; sound-fault = refl; light-room = refl; sound-room = refl }
+    record { light-bytes = refl; sound-bytes = refl; light-fault = refl; sound-fault = refl; sound-count = refl; sound-cell = refl }
 computed (suc (suc (suc zero))) l d =
-    record { light-bytes = refl; sound-bytes = refl; light-fault = refl; sound-fault = refl; light-room = refl; sound-room = refl }
+    record { light-bytes = refl; sound-bytes = refl; light-fault = refl; sound-fault = refl; sound-count = refl; sound-cell = refl }
 computed (suc (suc (suc (suc zero)))) l d =
-    record { light-bytes = refl; sound-bytes = refl; light-fault = refl; sound-fault = refl; light-room = refl; sound-room = refl }
+    record { light-bytes = refl; sound-bytes = refl; light-fault = refl; sound-fault = refl; sound-count = refl; sound-cell = refl }
 computed (suc (suc (suc (suc (suc j))))) l d = absurd (omega arith)
 
 gift-typed : TypedLedger (added freshLedger 0 1 374)
-unfolding roomFor
-gift-typed = added-typed freshLedger 0 1 374 fresh-typed (omega arith) (omega arith) refl
+gift-typed =
+    added-typed freshLedger 0 1 374 fresh-typed (omega arith) (omega arith) (omega (arith, fresh-count 0)) (omega (arith, fresh-cell 0 1))
 
 reads : (j : ℕ) → j < 5 → (j ≡ 1 → ⊥) → Reads j
 reads j l d =
     let k = computed j l d in
-    let light-typed = added-typed freshLedger 1 j 748 fresh-typed (omega arith) (omega arith) (k .light-room) in
-    let sound-typed = added-typed (added freshLedger 0 1 374) 1 j 748 gift-typed (omega arith) (omega arith) (k .sound-room) in
+    let light-typed =
+    added-typed freshLedger 1 j 748 fresh-typed (omega arith) (omega arith) (omega (arith, fresh-count 1)) (omega (arith, fresh-cell 1 j)) in
+    let sound-typed =
+    added-typed (added freshLedger 0 1 374) 1 j 748 gift-typed (omega arith) (omega arith) (omega (arith, k .sound-count)) (omega (arith, k .sound-cell)) in
     record {
       light-bytes = k .light-bytes;
       light = subst (λ m. check five m ≡ 5) (k .light-bytes) (share-number five 1 (alone j) (omega arith) light-typed ∙ k .light-fault);

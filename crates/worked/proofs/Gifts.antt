@@ -12,11 +12,11 @@ use Rattle.config.specs.Refusals.{refusal}
 use Rattle.config.specs.declared.answer.Verdict.{Verdict}
 use Rattle.config.proofs.Clusters.{valid-server}
 use Rattle.ledger.specs.Ledgers.{freshLedger, countOf}
-use Rattle.ledger.specs.Changes.{lawful}
+use Rattle.ledger.specs.Changes.{lawful, mostCount, spares}
 use Rattle.ledger.proofs.Fresh.{fresh-count, fresh-weight}
 use Rattle.replica.proofs.Replicas as replica
 use Rattle.server.specs.Servers.{fits, freshServer, openOf, accepted, refused}
-use Rattle.server.specs.Transfers.{mostCount, spares, gave, giveOf, transferOf}
+use Rattle.server.specs.Transfers.{gave, giveOf, transferOf}
 
 -- ---- each test that a fresh server passes
 

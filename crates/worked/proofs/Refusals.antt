@@ -2,7 +2,7 @@
 -- computation.
 use Prim.Native.Nat.{ℕ, _-_, _^_}
 use mathlib.Core.Path.{_≡_, refl}
-use mathlib.Core.List.{_++_}
+use mathlib.Core.List.{_∷_, _++_}
 use lib.IntN.{pos, negsuc}
 use lib.ListN.{replicate, set}
 use Rattle.quorums.specs.Sum.{size, sum, sumℤ, sumIn, all}
@@ -20,10 +20,10 @@ use Rattle.ledger.specs.declared.ledger.Ledger.{Ledger}
 use Rattle.ledger.specs.Ledgers.{freshLedger, givenOf, receivedOf, refused, accepted}
 use Rattle.ledger.specs.Maps.{named, mapOf, namedAnswer}
 use Rattle.ledger.specs.Weights.{weightOf, marginOf, givenAnswer, receivedAnswer, weightAnswer, marginAnswer, quorumAnswer}
-use Rattle.ledger.specs.Checks.{mayHold, totalFits, bounded, aboveFloor, floorAnswer, checkAnswer}
+use Rattle.ledger.specs.Checks.{mayHold, totalFits, bounded, aboveFloor, fits, floorAnswer, checkAnswer}
 use Rattle.ledger.specs.Tables.{run, table}
 use Rattle.ledger.specs.Joins.{agree, later, joins, joined, joinAnswer}
-use Rattle.ledger.specs.Changes.{lawful, roomFor, added, addAnswer}
+use Rattle.ledger.specs.Changes.{lawful, spares, added, giveAnswer, addAnswer}
 
 -- the largest number of 64 bits
 abbrev pub most : ℕ
@@ -101,33 +101,59 @@ bad-servers = record {
   two-of-five = refl;
 }
 
--- ---- transfers that are none, or that have no room
+-- ---- transfers that are refused
 
 -- giver 0 has count m, and gave x to 1
 abbrev gave : ℕ → ℕ → Ledger
 gave m x = record { counts = set (replicate 16 0) 0 m; cells = set (replicate 256 0) 1 x }
 
+-- 0 gave 1 to server 1 a times, and 1 gave 1 to server 0 b times
+abbrev pub exchange : ℕ → ℕ → Ledger
+exchange a b = record { counts = a ∷ b ∷ replicate 14 0; cells = set (set (replicate 256 0) 1 a) 16 b }
+
 pub record BadTransfers : Type 0 where
+  -- 1: the cluster, the giver, a row out of range, a server at the floor, also where nothing is given
+  pub cluster : addAnswer (configOf 4 2) freshLedger 0 1 1 ≡ refused (refusal 1) freshLedger
   pub giver : addAnswer five freshLedger 5 0 1 ≡ refused (refusal 1) freshLedger
+  pub range : addAnswer five (gave 1 16001) 2 3 1 ≡ refused (refusal 1) (gave 1 16001)
+  pub light : addAnswer five (gave 1 375) 2 3 1 ≡ refused (refusal 1) (gave 1 375)
+  pub light-first : addAnswer five (gave 1 375) 2 2 0 ≡ refused (refusal 1) (gave 1 375)
+  -- 11
   pub self-taker : addAnswer five freshLedger 0 0 1 ≡ refused (refusal 11) freshLedger
   pub taker : addAnswer five freshLedger 0 5 1 ≡ refused (refusal 11) freshLedger
+  pub most-taker : addAnswer five freshLedger 0 most 1 ≡ refused (refusal 11) freshLedger
   pub nothing : addAnswer five freshLedger 0 1 0 ≡ refused (refusal 11) freshLedger
-  pub count : addAnswer five (gave 65535 70000) 0 1 1 ≡ refused (refusal 12) (gave 65535 70000)
-  pub cell : addAnswer five (gave 1 4294967295) 0 1 1 ≡ refused (refusal 12) (gave 1 4294967295)
-  pub amount : addAnswer five freshLedger 0 1 most ≡ refused (refusal 12) freshLedger
-  pub last : addAnswer five (gave 65534 4294967294) 0 1 1 ≡ accepted (gave 65535 4294967295)
+  -- 12: the count alone
+  pub count : addAnswer five (exchange 65535 65535) 0 1 1 ≡ refused (refusal 12) (exchange 65535 65535)
+  pub last-count : addAnswer five (exchange 65534 65534) 0 1 1 ≡ accepted (exchange 65535 65534)
+  -- 10: the floor is reached, or passed by far
+  pub floor : addAnswer five freshLedger 0 1 375 ≡ refused (refusal 10) freshLedger
+  pub above : addAnswer five freshLedger 0 1 374 ≡ accepted (gave 1 374)
+  pub most-amount : addAnswer five freshLedger 0 1 most ≡ refused (refusal 10) freshLedger
+  -- 11 before 12, and 12 before 10
+  pub taker-first : addAnswer five (exchange 65535 65535) 0 0 1 ≡ refused (refusal 11) (exchange 65535 65535)
+  pub count-first : addAnswer five (exchange 65535 65535) 0 1 most ≡ refused (refusal 12) (exchange 65535 65535)
 
 pub bad-transfers : BadTransfers
-unfolding addAnswer serverOf validOf lawful roomFor added
+unfolding addAnswer giveAnswer serverOf validOf fits bounded mayHold totalFits aboveFloor aboveOf above totalOf startOf weightOf weight difference givenOf receivedOf
+    all sum lawful spares added
 bad-transfers = record {
+  cluster = refl;
   giver = refl;
+  range = refl;
+  light = refl;
+  light-first = refl;
   self-taker = refl;
   taker = refl;
+  most-taker = refl;
   nothing = refl;
   count = refl;
-  cell = refl;
-  amount = refl;
-  last = refl;
+  last-count = refl;
+  floor = refl;
+  above = refl;
+  most-amount = refl;
+  taker-first = refl;
+  count-first = refl;
 }
 
 -- ---- rows that clash

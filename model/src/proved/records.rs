@@ -134,6 +134,15 @@ impl Replica {
 }
 
 impl Operation {
+    /// Whether kind and phase go with the mode, as the record test has it
+    /// (paper 01, "Numbers handed out", 1): a kind where there is an operation,
+    /// a phase where one runs, and nothing above them in any mode.
+    pub fn has_kind_and_phase(&self) -> bool {
+        let kinds = if self.mode == 0 { 0..=2 } else { 1..=2 };
+        let phases = if self.mode == 1 { 1..=2 } else { 0..=2 };
+        kinds.contains(&self.kind) && phases.contains(&self.phase)
+    }
+
     /// No operation: all is 0.
     pub const NONE: Operation = Operation {
         mode: 0,

@@ -1,15 +1,90 @@
--- `add` meets its contract, test by test: a giver and a taker of the cluster have their places among the 16 counts and the 256 cells.
+-- `add` meets its contract, test by test: a giver and a taker of the cluster have their places among the 16 counts and the 256 cells, and a gift that
+-- the giver can spare has room there.
 use Prim.Native.Nat.{_+_, _≤_, _<_}
 use native.Mathlib.Omega.{arith}
-use mathlib.Core.Path.{sym, _∙_}
+use mathlib.Core.Path.{_≡_, sym, _∙_}
+use mathlib.Core.Bool.{true}
 use borrow.Author.Needs.{needs}
-use borrow.Author.Tests.{not-true, not-false}
+use borrow.Author.Tests.{not-true, not-false, lt-ltb, le-ltb}
+use Rattle.config.specs.Cluster.{serverOf, mostWeight}
 use Rattle.config.proofs.Clusters.{server-valid, valid-bounds}
 use Rattle.ledger.specs.Ledgers.{countOf, cellOf}
-use Rattle.ledger.specs.Changes.{added, addAnswer}
-use Rattle.ledger.proofs.Changes.{lawful-told, room-told}
+use Rattle.ledger.specs.Checks.{fits}
+use Rattle.ledger.specs.Changes.{lawful, mostCount, spares, added, giveAnswer, addAnswer}
+use Rattle.ledger.proofs.Checks.{check-fits, check-unfit, fits-told}
+use Rattle.ledger.proofs.Lines.{above-cells}
+use Rattle.ledger.proofs.Changes.{lawful-told}
+use Rattle.ledger.proofs.Ranges.{ledger-typed}
+use Rattle.ledger.proofs.Spared.{spared-small, spared-room, spares-cells}
 use Rattle.ledger.proofs.ledger.Ledger.add.Statement.{statement}
 use Rattle.ledger.proofs.ledger.Ledger.add.Tie as tie
+
+-- Where each test starts from, and what the tests before it have shown.
+
+abbrev of-giver : tie.Else1 → tie.Start
+of-giver c = c .before .before
+
+abbrev of-ledger : tie.After-enum-told → tie.Else1
+of-ledger c = c .before .before .before
+
+abbrev of-taker : tie.Else2 → tie.After-enum-told
+of-taker c = c .before .before
+
+abbrev of-count : tie.Else3 → tie.Else2
+of-count c = c .before .before
+
+abbrev of-spares : tie.After-spares → tie.Else3
+of-spares c = c .before .before .before .before
+
+abbrev of-gift : tie.Else4 → tie.Else3
+of-gift c = of-spares (c .before)
+
+abbrev start : tie.Else2 → tie.Start
+start c = of-giver (of-ledger (of-taker c))
+
+one-of : (c : tie.Else1) → serverOf (of-giver c .args .config) (of-giver c .args .giver) ≡ true
+one-of c = sym (c .before .has .ensures) ∙ not-false _ (c .if1 .left)
+
+sound : (c : tie.After-enum-told) → fits (of-giver (of-ledger c) .args .config) (of-giver (of-ledger c) .args .t1) ≡ true
+sound c = check-fits _ _ (sym (c .before .before .check .ensures) ∙ c .enum-told .given .1)
+
+legal : (c : tie.Else2) → lawful (start c .args .config) (start c .args .giver) (start c .args .taker) (start c .args .amount) ≡ true
+legal c = sym (c .before .lawful .ensures) ∙ not-false _ (c .if2 .left)
+
+counted : (c : tie.Else3) → countOf (start (of-count c) .args .t1) (start (of-count c) .args .giver) < mostCount
+counted c =
+    let s = start (of-count c) in
+    omega (arith, c .if3 .left, ledger-typed (s .args .t1) _ (s .good .0) .count-fits (s .args .giver))
+
+spared : (c : tie.Else4) →
+    let a = start (of-count (of-gift c)) .args in
+    spares (a .config) (a .t1) (a .giver) (a .amount) ≡ true
+spared c =
+    let a = start (of-count (of-gift c)) .args in
+    sym (spares-cells (a .config) (a .t1) (a .giver) (a .amount)) ∙ sym (c .before .spares .ensures) ∙ not-false _ (c .if4 .left)
+
+-- giver and taker are below 16
+placed : (c : tie.Else2) → (start c .args .giver < 16) × (start c .args .taker < 16)
+placed c =
+    let s = server-valid _ _ (one-of (of-ledger (of-taker c))) in
+    omega (arith, s .1, lawful-told _ _ _ _ (legal c) .1, valid-bounds _ (s .0) .most)
+
+-- the amount is at most all weight, and the cell has room for it
+small : (c : tie.Else4) → start (of-count (of-gift c)) .args .amount ≤ mostWeight
+small c =
+    let e = of-count (of-gift c) in
+    let s = server-valid _ _ (one-of (of-ledger (of-taker e))) in
+    let t = fits-told _ _ (sound (of-taker e)) in
+    spared-small _ _ _ _ (s .0) (t .0) (t .1) (s .1) (spared c)
+
+roomy : (c : tie.Else4) →
+    let a = start (of-count (of-gift c)) .args in
+    cellOf (a .t1) (a .giver) (a .taker) + a .amount ≤ 4294967295
+roomy c =
+    let e = of-count (of-gift c) in
+    let s = server-valid _ _ (one-of (of-ledger (of-taker e))) in
+    let t = fits-told _ _ (sound (of-taker e)) in
+    spared-room _ _ _ _ _ (s .0) (t .0) (t .1) (s .1) (lawful-told _ _ _ _ (legal e) .1) (counted (of-gift c)) (spared c)
 
 has-requires : tie.Need-has-requires
 has-requires c κs = search needs
@@ -21,28 +96,36 @@ returns : tie.Need-returns
 unfolding addAnswer
 returns c = simp (sym (c .before .before .has .ensures) ∙ not-true _ (c .before .if1 .taken)) (c .refused .ensures)
 
-lawful-requires : tie.Need-lawful-requires
-lawful-requires c κs = search needs
+check-requires : tie.Need-check-requires
+check-requires c κs = search needs
+
+enum-told : tie.Need-enum-told
+enum-told c = search needs
+
+enum-told-2 : tie.Need-enum-told-2
+enum-told-2 c = search needs
 
 refused-requires-2 : tie.Need-refused-requires-2
 refused-requires-2 c κs = search needs
 
 returns-2 : tie.Need-returns-2
 unfolding addAnswer
-returns-2 c = simp (sym (c .before .before .before .before .has .ensures) ∙ not-false _ (c .before .before .before .if1 .left), sym (c .before .before .lawful .ensures) ∙ not-true _ (c .before .if2 .taken)) (c .refused2 .ensures)
+returns-2 c =
+    let check = c .before .before .before in
+    let one = one-of (check .before) in
+    simp (one, check-unfit _ _ _ (server-valid _ _ one .0) (sym (check .check .ensures) ∙ c .before .enum-told2 .given .1)) (c .refused2 .ensures)
 
--- the giver and the taker are below 16
-placed : (c : tie.Else2) → (c .before .before .before .before .args .giver < 16) × (c .before .before .before .before .args .taker < 16)
-placed c =
-    let s = server-valid _ _ (sym (c .before .before .before .has .ensures) ∙ not-false _ (c .before .before .if1 .left)) in
-    let t = lawful-told _ _ _ _ (sym (c .before .lawful .ensures) ∙ not-false _ (c .if2 .left)) in
-    omega (arith, s .1, t .1, valid-bounds _ (s .0) .most)
+lawful-requires : tie.Need-lawful-requires
+lawful-requires c κs = search needs
 
-mul-at : tie.Need-mul-at
-mul-at c = omega (arith, placed c)
+refused-requires-3 : tie.Need-refused-requires-3
+refused-requires-3 c κs = search needs
 
-add-at : tie.Need-add-at
-add-at c = omega (arith, placed c)
+returns-3 : tie.Need-returns-3
+unfolding addAnswer giveAnswer
+returns-3 c =
+    let t = c .before .before .before in
+    simp (one-of (of-ledger t), sound t, sym (c .before .before .lawful .ensures) ∙ not-true _ (c .before .if2 .taken)) (c .refused3 .ensures)
 
 mul-count : tie.Need-mul-count
 mul-count c = omega (arith, placed c)
@@ -50,50 +133,76 @@ mul-count c = omega (arith, placed c)
 element-copy-out-count : tie.Need-element-copy-out-count
 element-copy-out-count c = placed c .0
 
-mul-cell : tie.Need-mul-cell
-mul-cell c = omega (arith, placed (c .before))
-
-element-copy-out-cell : tie.Need-element-copy-out-cell
-element-copy-out-cell c = omega (arith, placed (c .before))
-
-room-for-requires : tie.Need-room-for-requires
-room-for-requires c κs = search needs
-
-refused-requires-3 : tie.Need-refused-requires-3
-refused-requires-3 c κs = search needs
-
-returns-3 : tie.Need-returns-3
-unfolding addAnswer
-returns-3 c = simp (sym (c .before .before .before .before .before .before .before .before .has .ensures) ∙ not-false _ (c .before .before .before .before .before .before .before .if1 .left), sym (c .before .before .before .before .before .before .lawful .ensures) ∙ not-false _ (c .before .before .before .before .before .if2 .left), sym (c .before .before .room-for .ensures) ∙ not-true _ (c .before .if3 .taken)) (c .refused3 .ensures)
-
--- the count and the cell have room
-roomy : (c : tie.Else3) → (countOf (c .before .before .before .before .before .before .before .before .args .t1) (c .before .before .before .before .before .before .before .before .args .giver) < 65535) × (cellOf (c .before .before .before .before .before .before .before .before .args .t1) (c .before .before .before .before .before .before .before .before .args .giver) (c .before .before .before .before .before .before .before .before .args .taker) + c .before .before .before .before .before .before .before .before .args .amount ≤ 4294967295)
-roomy c = room-told _ _ _ (sym (c .before .room-for .ensures) ∙ not-false _ (c .if3 .left))
-
-add-next : tie.Need-add-next
-add-next c = omega (arith, roomy c)
-
-mul-next : tie.Need-mul-next
-mul-next c = omega (arith, placed (c .before .before .before .before))
-
-element-write-next : tie.Need-element-write-next
-element-write-next c = placed (c .before .before .before .before) .0
-
-cast-next : tie.Need-cast-next
-cast-next c = omega (arith, roomy c)
-
-add-next-2 : tie.Need-add-next-2
-add-next-2 c = omega (arith, roomy c)
-
-mul-next-2 : tie.Need-mul-next-2
-mul-next-2 c = omega (arith, placed (c .before .before .before .before))
-
-element-write-next-2 : tie.Need-element-write-next-2
-element-write-next-2 c = omega (arith, placed (c .before .before .before .before))
+refused-requires-4 : tie.Need-refused-requires-4
+refused-requires-4 c κs = search needs
 
 returns-4 : tie.Need-returns-4
-unfolding addAnswer added
-returns-4 c = simp (sym (c .before .before .before .before .before .before .before .has .ensures) ∙ not-false _ (c .before .before .before .before .before .before .if1 .left), sym (c .before .before .before .before .before .lawful .ensures) ∙ not-false _ (c .before .before .before .before .if2 .left), sym (c .before .room-for .ensures) ∙ not-false _ (c .if3 .left))
+unfolding addAnswer giveAnswer
+returns-4 c =
+    let e = c .before .before .before in
+    let full : mostCount ≤ countOf (start e .args .t1) (start e .args .giver) = omega (arith, c .before .if3 .taken) in
+    simp (one-of (of-ledger (of-taker e)), sound (of-taker e), legal e, le-ltb _ _ full) (c .refused4 .ensures)
+
+spares-requires : tie.Need-spares-requires
+spares-requires c κs =
+    let e = of-count (c .before .before .before) in
+    let a = start e .args in (
+      ledger-typed (a .t1) _ (start e .good .0) .cells-length,
+      one-of (of-ledger (of-taker e)),
+      above-cells (a .config) (a .t1) ∙ fits-told _ _ (sound (of-taker e)) .1,
+    )
+
+refused-requires-5 : tie.Need-refused-requires-5
+refused-requires-5 c κs = search needs
+
+returns-5 : tie.Need-returns-5
+unfolding addAnswer giveAnswer
+returns-5 c =
+    let k = of-spares (c .before .before) in
+    let e = of-count k in
+    let a = start e .args in
+    simp (one-of (of-ledger (of-taker e)), sound (of-taker e), legal e, lt-ltb _ _ (counted k), sym (spares-cells (a .config) (a .t1) (a .giver) (a .amount)) ∙ sym (c .before .before .spares .ensures) ∙ not-true _ (c .before .if4 .taken))
+    (c .refused5 .ensures)
+
+mul-at : tie.Need-mul-at
+mul-at c = omega (arith, placed (of-count (of-gift c)))
+
+add-at : tie.Need-add-at
+add-at c = omega (arith, placed (of-count (of-gift c)))
+
+mul-cell : tie.Need-mul-cell
+mul-cell c = omega (arith, placed (of-count (of-gift c)))
+
+element-copy-out-cell : tie.Need-element-copy-out-cell
+element-copy-out-cell c = omega (arith, placed (of-count (of-gift c)))
+
+add-next : tie.Need-add-next
+add-next c = omega (arith, counted (of-gift (c .before)))
+
+mul-next : tie.Need-mul-next
+mul-next c = omega (arith, placed (of-count (of-gift (c .before))))
+
+element-write-next : tie.Need-element-write-next
+element-write-next c = placed (of-count (of-gift (c .before))) .0
+
+cast-next : tie.Need-cast-next
+cast-next c = omega (arith, small (c .before))
+
+add-next-2 : tie.Need-add-next-2
+add-next-2 c = omega (arith, roomy (c .before))
+
+mul-next-2 : tie.Need-mul-next-2
+mul-next-2 c = omega (arith, placed (of-count (of-gift (c .before))))
+
+element-write-next-2 : tie.Need-element-write-next-2
+element-write-next-2 c = omega (arith, placed (of-count (of-gift (c .before))))
+
+returns-6 : tie.Need-returns-6
+unfolding addAnswer giveAnswer added
+returns-6 c =
+    let k = of-gift (c .before) in
+    let e = of-count k in
+    simp (one-of (of-ledger (of-taker e)), sound (of-taker e), legal e, lt-ltb _ _ (counted k), spared (c .before))
 
 pub add-spec : {M : Type 1} → statement M
 add-spec =
@@ -102,18 +211,25 @@ add-spec =
     has-requires
     refused-requires
     returns
-    lawful-requires
+    check-requires
+    enum-told
+    enum-told-2
     refused-requires-2
     returns-2
-    mul-at
-    add-at
-    mul-count
-    element-copy-out-count
-    mul-cell
-    element-copy-out-cell
-    room-for-requires
+    lawful-requires
     refused-requires-3
     returns-3
+    mul-count
+    element-copy-out-count
+    refused-requires-4
+    returns-4
+    spares-requires
+    refused-requires-5
+    returns-5
+    mul-at
+    add-at
+    mul-cell
+    element-copy-out-cell
     add-next
     mul-next
     element-write-next
@@ -121,4 +237,4 @@ add-spec =
     add-next-2
     mul-next-2
     element-write-next-2
-    returns-4)
+    returns-6)

@@ -1,0 +1,112 @@
+-- What a server can spare: it is small enough for its ledger, and with it every weight stays above the floor.
+use Prim.Native.Nat.{ℕ, _+_, _-_, _≤_, _<_}
+use native.Mathlib.Decide.{ℕ-discrete}
+use native.Mathlib.Omega.{arith}
+use mathlib.Core.Path.{_≡_, refl, sym, ap, _∙_}
+use mathlib.Core.Logic.{⊎-elim}
+use mathlib.Core.Bool.{true}
+use borrow.Author.Tests.{le-leb, lt-leb, leb-true}
+use lib.Dec.{leb}
+use lib.IntN.{pos, _+ℤ_}
+use Rattle.quorums.specs.Accounts.{held, weight, above}
+use Rattle.quorums.proofs.Sums.{sum-add, sum-zero, sum-rest, all-each, each-all}
+use Rattle.quorums.proofs.Tests.{le-or-lt}
+use Rattle.quorums.proofs.Differences.{difference-less, difference-more}
+use Rattle.quorums.proofs.Weights.{above-grows}
+use Rattle.config.specs.Cluster.{validOf, startOf, totalOf, aboveOf, leastOf, mostWeight}
+use Rattle.config.specs.declared.cluster.Config.{Config}
+use Rattle.config.proofs.Clusters.{valid-bounds, total-small, above-least}
+use Rattle.ledger.specs.declared.ledger.Ledger.{Ledger}
+use Rattle.ledger.specs.Ledgers.{countOf, cellOf, givenOf, receivedOf, accountsOf, Typed}
+use Rattle.ledger.specs.Weights.{weightOf}
+use Rattle.ledger.specs.Checks.{rowFits, serverAbove, bounded, aboveFloor}
+use Rattle.ledger.specs.Changes.{mostCount, spares, added}
+use Rattle.ledger.proofs.Lines.{inCells}
+use Rattle.ledger.proofs.Totals.{bounded-told, total-fits-told, received-given}
+use Rattle.ledger.proofs.Majorities.{each-above}
+use Rattle.ledger.proofs.Added.{giver-weight, taker-weight, other-weight}
+
+-- the test, in plain numbers: the gift and the least weight on top of what was given
+pub spares-is : (c : Config) (l : Ledger) (i d : ℕ) → validOf c ≡ true → spares c l i d ≡ leb (givenOf l i + d + leastOf c) (startOf c i + receivedOf l i)
+unfolding spares weightOf weight
+spares-is c l i d v =
+    ap (aboveOf c) (difference-less (startOf c i + receivedOf l i) (givenOf l i) d)
+    ∙ above-least c (startOf c i + receivedOf l i) (givenOf l i + d) v
+
+-- the same of a weight above the floor
+pub above-told : (c : Config) (l : Ledger) (i : ℕ) → validOf c ≡ true → aboveFloor c l ≡ true → i < c .n → givenOf l i + leastOf c ≤ startOf c i + receivedOf l i
+unfolding weightOf weight
+above-told c l i v a h =
+    leb-true _ _ (sym (above-least c (startOf c i + receivedOf l i) (givenOf l i) v) ∙ each-above c l a i h)
+
+-- what a server spares is what it is above the least weight, as the program tests it
+pub spares-rest : (c : Config) (l : Ledger) (i d : ℕ) → validOf c ≡ true → aboveFloor c l ≡ true → i < c .n
+    → leb d (startOf c i + receivedOf l i - givenOf l i - leastOf c) ≡ spares c l i d
+spares-rest c l i d v a h =
+    rest (startOf c i + receivedOf l i) (givenOf l i) (leastOf c) (above-told c l i v a h) ∙ sym (spares-is c l i d v)
+  where
+    rest : (x y z : ℕ) → y + z ≤ x → leb d (x - y - z) ≡ leb (y + d + z) x
+    rest x y z m =
+        ⊎-elim (λ (k : y + d + z ≤ x). le-leb d _ (omega arith) ∙ sym (le-leb _ _ k)) (λ (k : x < y + d + z). lt-leb d _ (omega arith) ∙ sym (lt-leb _ _ k))
+        (le-or-lt (y + d + z) x)
+
+-- No server weighs more than all start weights together, since none is negative and together they weigh that.
+pub weight-small : (c : Config) (l : Ledger) (i : ℕ) → validOf c ≡ true → bounded c l ≡ true → aboveFloor c l ≡ true → i < c .n
+    → startOf c i + receivedOf l i ≤ givenOf l i + totalOf c
+unfolding totalOf
+weight-small c l i v b a h =
+    omega (
+      arith,
+      sum-rest (c .n) (givenOf l) (held (accountsOf c l)) (λ k m. omega (arith, above-told c l k v a m)) i h,
+      sum-add (c .n) (startOf c) (receivedOf l),
+      received-given c l v b,
+    )
+
+-- A gift that leaves a weight above the floor is at most all weight.
+pub spared-small : (c : Config) (l : Ledger) (i d : ℕ) → validOf c ≡ true → bounded c l ≡ true → aboveFloor c l ≡ true → i < c .n
+    → spares c l i d ≡ true → d ≤ mostWeight
+spared-small c l i d v b a h e =
+    let kept : givenOf l i + d + leastOf c ≤ startOf c i + receivedOf l i = leb-true _ _ (sym (spares-is c l i d v) ∙ e) in
+    omega (arith, weight-small c l i v b a h, total-small c v)
+
+-- a cell is at most its row's total
+cell-small : (l : Ledger) (i j : ℕ) → j < 16 → cellOf l i j ≤ givenOf l i
+unfolding givenOf
+cell-small l i j h =
+    omega (arith, sum-rest 16 (λ k. 0) (λ k. cellOf l i k) (λ k m. omega arith) j h, sum-zero 16 (λ k. 0) (λ k m. refl))
+
+-- A gift that passes the tests has room in its cell: a row's total is at most 16,000 for each of its transfers, of which there are at most 65,535.
+pub spared-room : (c : Config) (l : Ledger) (i j d : ℕ) → validOf c ≡ true → bounded c l ≡ true → aboveFloor c l ≡ true → i < c .n → j < c .n
+    → countOf l i < mostCount → spares c l i d ≡ true → cellOf l i j + d ≤ 4294967295
+spared-room c l i j d v b a hi hj h e =
+    let most = valid-bounds c v .most in
+    let t = total-fits-told (countOf l i) (givenOf l i) (all-each 16 (rowFits l) (bounded-told c l b .1) i (omega (arith, most))) in
+    omega (arith, t .1, cell-small l i j (omega (arith, most)), spared-small c l i d v b a hi e)
+
+-- weights are about cells alone
+pub spares-cells : (c : Config) (l : Ledger) (i d : ℕ) → spares c (inCells (l .cells)) i d ≡ spares c l i d
+unfolding spares weightOf receivedOf givenOf
+spares-cells c l i d = refl
+
+-- ---- what a transfer keeps
+
+-- a weight above the floor stays so with more
+more-above : (c : Config) (l : Ledger) (i d : ℕ) → aboveOf c (weightOf c l i) ≡ true → aboveOf c (weightOf c l i +ℤ pos d) ≡ true
+unfolding aboveOf weightOf weight
+more-above c l i d e =
+    let x = startOf c i + receivedOf l i in
+    ap (above (c .n) (c .f) (totalOf c)) (difference-more x (givenOf l i) d)
+    ∙ above-grows (c .n) (c .f) (totalOf c) x (givenOf l i) (x + d) (givenOf l i) (omega arith) (omega arith) e
+
+-- the giver keeps enough, the taker has more, and no other weight changes
+pub added-above : (c : Config) (l : Ledger) (i j d : ℕ) → Typed l → i < 16 → j < 16 → c .n ≤ 16 → (i ≡ j → ⊥) → aboveFloor c l ≡ true
+    → spares c l i d ≡ true
+    → aboveFloor c (added l i j d) ≡ true
+unfolding aboveFloor spares
+added-above c l i j d t hi hj hn ne a p =
+    each-all (c .n) (serverAbove c (added l i j d)) (λ k h. one k h (ℕ-discrete k i) (ℕ-discrete k j))
+  where
+    one : (k : ℕ) → k < c .n → Dec (k ≡ i) → Dec (k ≡ j) → aboveOf c (weightOf c (added l i j d) k) ≡ true
+    one k h (yes e) q = rw e (ap (aboveOf c) (giver-weight l i j d t hi hj c ne) ∙ p)
+    one k h (no e) (yes q) = rw q (ap (aboveOf c) (taker-weight l i j d t hi hj c ne) ∙ more-above c l j d (each-above c l a j (omega (arith, h))))
+    one k h (no e) (no q) = ap (aboveOf c) (other-weight l i j d t hi hj c k (omega arith) e q) ∙ each-above c l a k h
