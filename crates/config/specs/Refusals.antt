@@ -1,8 +1,11 @@
--- The number of each refusal (paper 01, "Numbers handed out"), the refusal of each number, and what is done after a verdict.
+-- The number of each refusal (paper 01, "Numbers handed out"), what each number stands for, and what is done after a verdict.
 use Prim.Native.Nat.{ℕ, _-_}
+use mathlib.Core.Bool.{cond}
 use mathlib.Core.List.{List, [], _∷_}
+use lib.Dec.{leb}
 use lib.ListN.{getD}
 use Rattle.config.specs.declared.answer.Refusal.{Refusal}
+use Rattle.config.specs.declared.answer.Meaning.{Meaning}
 use Rattle.config.specs.declared.answer.Verdict.{Verdict}
 use Rattle.config.specs.declared.answer.Verdict.the-variants.{Accepted, Refused}
 use Rattle.config.specs.declared.answer.Refusal.the-variants.{BadHouse, Torn, BadMap, OddField, Light, Clash, Stray, Busy, Idle, Thin, BadTransfer, Spent, Narrow, Long}
@@ -35,6 +38,10 @@ mostRefusal = 14
 -- The refusal of a number from 1 to the largest. Definitions name a refusal by its number; 0, and what is above the largest, has none of its own.
 abbrev pub refusal : ℕ → Refusal
 refusal k = getD refusals (k - 1) BadHouse
+
+-- what a number stands for, at all numbers: the refusal from 1 to the largest, and none for 0 and above
+unfoldable pub meaning : ℕ → Meaning
+meaning k = cond (leb 1 k) (cond (leb k mostRefusal) (Meaning.Refusal (refusal k)) Meaning.None) Meaning.None
 
 -- what is done where a call was accepted, and for a refusal
 abbrev pub by-verdict : {A : Type 0} → Verdict → A → (Refusal → A) → A

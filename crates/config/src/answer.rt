@@ -1,6 +1,6 @@
 // Answers: the refusals of paper 01, "Numbers handed out", and the forms of answer that hold one.
 ghost use mathlib.Core.Path.{_≡_};
-ghost use Rattle.config.specs.Refusals.{numberOf, refusal};
+ghost use Rattle.config.specs.Refusals.{numberOf, meaning};
 
 // Why a call refuses. `numberOf` gives paper 01's number for each.
 pub enum Refusal {
@@ -18,6 +18,12 @@ pub enum Refusal {
     Spent,
     Narrow,
     Long,
+}
+
+// What a number stands for: the refusal that has it, or none, as with 0 and with what is above the largest.
+pub enum Meaning {
+    Refusal(Refusal),
+    None,
 }
 
 // The largest number, and the refusals in the order of their numbers.
@@ -62,18 +68,18 @@ impl Refusal {
         }
     }
 
-    // The refusal of a number; `BadHouse` where none has it.
-    pub fn of(number: u64) -> Refusal
-        ensures { λ r. ⌜ r ≡ refusal number ⌝ }
+    // The way back from a number.
+    pub fn of(number: u64) -> Meaning
+        ensures { λ r. ⌜ r ≡ meaning number ⌝ }
     {
         if number < 1 {
-            return Refusal::BadHouse;
+            return Meaning::None;
         }
         if number > MOST_REFUSAL {
-            return Refusal::BadHouse;
+            return Meaning::None;
         }
         let refusals = REFUSALS;
-        refusals[(number - 1) as usize]
+        Meaning::Refusal(refusals[(number - 1) as usize])
     }
 }
 

@@ -3,6 +3,7 @@ mod answer;
 mod cluster;
 
 pub use answer::Decision;
+pub use answer::Meaning;
 pub use answer::Number;
 pub use answer::Refusal;
 pub use answer::Signed;

@@ -1,29 +1,41 @@
--- What is answered, from the number that a scan found.
-use Prim.Native.Nat.{ℕ, _+_, _≤_}
-use mathlib.Core.Path.{_≡_, sym, ap}
-use mathlib.Core.Bool.{true, false}
+-- What is answered, from what the number of the check stands for and from the sums of the sheet.
+use Prim.Native.Nat.{ℕ, _+_, _<_, _≤_}
+use native.Mathlib.Omega.{arith}
+use mathlib.Core.Path.{_≡_, sym, ap, ap₂, _∙_}
+use mathlib.Core.Logic.{⊎-elim}
+use mathlib.Core.Bool.{true, false, cond}
 use mathlib.Core.List.{List}
+use lib.Dec.{eqb}
 use lib.ListN.{length}
 use borrow.Author.Tests.{eq-eqb, ne-eqb}
-use Rattle.config.specs.Cluster.{validOf}
+use Rattle.quorums.specs.Accounts.{weight, quorum}
+use Rattle.config.specs.Cluster.{validOf, serverOf}
+use Rattle.config.specs.Refusals.{mostRefusal, refusal, meaning}
+use Rattle.config.specs.Answers.{decide}
 use Rattle.config.specs.declared.cluster.Config.{Config}
+use Rattle.config.specs.declared.answer.Refusal.{Refusal}
+use Rattle.config.specs.declared.answer.Meaning.{Meaning}
 use Rattle.config.specs.declared.answer.Signed.{Signed}
 use Rattle.config.specs.declared.answer.Decision.{Decision}
+use Rattle.config.proofs.Refusals.{meaning-told, meaning-none}
 use Rattle.format.specs.Bytes.{bit}
 use Rattle.ledger.specs.Ledgers.{receivedOf, givenOf, Typed}
+use Rattle.ledger.specs.Maps.{named, mapOf}
 use Rattle.ledger.specs.Weights.{weightAnswer, quorumAnswer}
 use Rattle.ledger.specs.Tables.{table}
 use Rattle.message.specs.Scans.{headOf, registerOf, scanOf}
 use Rattle.message.specs.declared.state.RegisterRead.{RegisterRead}
 use Rattle.message.specs.declared.answer.Received.{Received}
-use Rattle.config.specs.Refusals.{refusal}
-use Rattle.message.specs.Answers.{check, valuePart, refusedOf, receiveOf, valueAnswer}
+use Rattle.message.specs.Answers.{check, valuePart, receiveOf, valueAnswer}
+use Rattle.message.proofs.Numbers.{check-most}
 use Rattle.message.proofs.Parts.{value-within}
-use Rattle.message.proofs.Rounds.{received}
+use Rattle.message.proofs.Rounds.{check-told, received}
 use Rattle.message.proofs.SheetBacks.{ledger-typed}
 use Rattle.reader.specs.Weighings.{weightIn, quorumIn}
-use Rattle.reader.specs.Sums.{Sums}
-use Rattle.reader.proofs.Weights.{received-sums, given-sums}
+use Rattle.reader.specs.Sums.{Sums, SheetSums, accountsIn}
+use Rattle.reader.proofs.Weights.{received-sums, given-sums, sums-weight, sums-quorum}
+
+-- ---- the number of the check
 
 pub check-invalid : (c : Config) (msg : List ℕ) → validOf c ≡ false → check c msg ≡ 1
 unfolding check
@@ -33,15 +45,16 @@ pub check-found : (c : Config) (msg : List ℕ) (k : ℕ) → validOf c ≡ true
 unfolding check
 check-found c msg k v e = simp v (sym e)
 
--- the ledger of a message, where there was no fault
-pub ledger-found : (c : Config) (msg : List ℕ) → check c msg ≡ 0 → receiveOf c msg .replica .ledger ≡ scanOf c msg .ledger
-ledger-found c msg e = ap (λ (x : Received). x .replica .ledger) (received c msg e)
+-- where it stands for a refusal, an answer that is made of the refusal of the number is made of this one
+pub refusal-meant : {A : Type 0} (c : Config) (msg : List ℕ) (r : Refusal) (x : A) (f : Refusal → A) → meaning (check c msg) ≡ Meaning.Refusal r
+    → f r ≡ cond (eqb (check c msg) 0) x (f (refusal (check c msg)))
+refusal-meant c msg r x f e =
+    let t = meaning-told (check c msg) r e in rw (ne-eqb (check c msg) 0 (λ z. omega (arith, t .2))) (ap f (t .0))
 
--- ---- what a message says, where the check gives a number
-
-pub receive-number : (c : Config) (msg : List ℕ) (k : ℕ) → check c msg ≡ k → (k ≡ 0 → ⊥) → refusedOf (refusal k) ≡ receiveOf c msg
-unfolding receiveOf
-receive-number c msg k e n = simp (e, ne-eqb k 0 n)
+-- where it stands for none, there is no fault, because the check gives no number above the largest
+pub none-meant : (c : Config) (msg : List ℕ) → meaning (check c msg) ≡ Meaning.None → check c msg ≡ 0
+none-meant c msg e =
+    ⊎-elim (λ (z : check c msg ≡ 0). z) (λ (h : mostRefusal < check c msg). absurd (omega (arith, check-most c msg))) (meaning-none (check c msg) .0 e)
 
 -- ---- the value, from the register
 
@@ -58,9 +71,8 @@ module _ (c : Config) (msg : List ℕ) (r : RegisterRead) (register : r ≡ regi
   unfolding valueAnswer
   register-value e = rw scanned (simp (eq-eqb (check c msg) 0 e))
 
--- ---- weights
+-- ---- the sums of a scan are small
 
--- the sums of a message's ledger are small
 ledger-small : (c : Config) (msg : List ℕ) → Typed (scanOf c msg .ledger)
 unfolding scanOf
 ledger-small c msg = ledger-typed c msg _ _
@@ -71,20 +83,51 @@ received-small c msg e = rw e (received-sums _ (ledger-small c msg))
 pub given-small : (c : Config) (msg : List ℕ) {xs : List ℕ} → xs ≡ table 16 (givenOf (scanOf c msg .ledger)) → Sums 68719476720 xs
 given-small c msg e = rw e (given-sums _ (ledger-small c msg))
 
--- an answer where the check gives a number, and where it gives none
+-- ---- the sheet of a message without a fault
 
-pub weight-refused : (c : Config) (server : ℕ) (msg : List ℕ) (k : ℕ) → check c msg ≡ k → (k ≡ 0 → ⊥) → Signed.Refused (refusal k) ≡ weightIn c server msg
-unfolding weightIn
-weight-refused c server msg k e n = simp (e, ne-eqb k 0 n)
+ledger-found : (c : Config) (msg : List ℕ) → check c msg ≡ 0 → scanOf c msg .ledger ≡ receiveOf c msg .replica .ledger
+ledger-found c msg e = ap (λ (x : Received). x .replica .ledger) (sym (received c msg e))
 
-pub weight-accepted : (c : Config) (server : ℕ) (msg : List ℕ) → check c msg ≡ 0 → weightAnswer c (scanOf c msg .ledger) server ≡ weightIn c server msg
-unfolding weightIn
-weight-accepted c server msg e = simp (e, ledger-found c msg e)
+-- the sums of a scan are those of the sheet
+pub sums-found : (c : Config) (msg : List ℕ) {received given : List ℕ} → check c msg ≡ 0
+    → received ≡ table 16 (receivedOf (scanOf c msg .ledger))
+    → given ≡ table 16 (givenOf (scanOf c msg .ledger))
+    → SheetSums c msg received given
+sums-found c msg e r g =
+    let same = ledger-found c msg e in
+    record { takes = r ∙ ap (λ l. table 16 (receivedOf l)) same; gives = g ∙ ap (λ l. table 16 (givenOf l)) same }
 
-pub quorum-refused : (c : Config) (map : ℕ) (msg : List ℕ) (k : ℕ) → check c msg ≡ k → (k ≡ 0 → ⊥) → Decision.Refused (refusal k) ≡ quorumIn c map msg
-unfolding quorumIn
-quorum-refused c map msg k e n = simp (e, ne-eqb k 0 n)
+module _ (c : Config) (msg : List ℕ) {received given : List ℕ} (passed : check c msg ≡ 0) (found : check c msg ≡ 0 → SheetSums c msg received given) where
+  pub sheet-small : Sums 68719476720 received × Sums 68719476720 given
+  sheet-small =
+      let same = sym (ledger-found c msg passed) in (
+        received-small c msg (found passed .takes ∙ ap (λ l. table 16 (receivedOf l)) same),
+        given-small c msg (found passed .gives ∙ ap (λ l. table 16 (givenOf l)) same),
+      )
 
-pub quorum-accepted : (c : Config) (map : ℕ) (msg : List ℕ) → check c msg ≡ 0 → quorumAnswer c (scanOf c msg .ledger) map ≡ quorumIn c map msg
-unfolding quorumIn
-quorum-accepted c map msg e = simp (e, ledger-found c msg e)
+  -- the weight of a server
+  pub weight-answered : (i : ℕ) → serverOf c i ≡ true → Signed.Value (weight (accountsIn c received given) i) ≡ weightIn c i msg
+  unfolding weightIn weightAnswer
+  weight-answered i s =
+      let sums = found passed in
+      rw (eq-eqb (check c msg) 0 passed, s)
+      (ap Signed.Value (ap₂ (λ r g. weight (accountsIn c r g) i) (sums .takes) (sums .gives) ∙ sums-weight c _ i s))
+
+  -- whether a map names a quorum
+  pub quorum-answered : (m : ℕ) → mapOf c m ≡ true → decide (quorum (c .n) (accountsIn c received given) (named m)) ≡ quorumIn c m msg
+  unfolding quorumIn quorumAnswer
+  quorum-answered m e =
+      let sums = found passed in
+      rw (eq-eqb (check c msg) 0 passed, e)
+      (ap decide
+      (ap₂ (λ r g. quorum (c .n) (accountsIn c r g) (named m)) (sums .takes) (sums .gives) ∙ sums-quorum c _ m (check-told c msg passed .0)))
+
+-- a server that there isn't, and a map with a bit from n on
+
+pub server-refused : (c : Config) (i : ℕ) (msg : List ℕ) → check c msg ≡ 0 → serverOf c i ≡ false → Signed.Refused (refusal 1) ≡ weightIn c i msg
+unfolding weightIn weightAnswer
+server-refused c i msg e s = simp (e, s)
+
+pub map-refused : (c : Config) (m : ℕ) (msg : List ℕ) → check c msg ≡ 0 → mapOf c m ≡ false → Decision.Refused (refusal 1) ≡ quorumIn c m msg
+unfolding quorumIn quorumAnswer
+map-refused c m msg e n = simp (e, n)

@@ -8,6 +8,9 @@ use Rattle.quorums.specs.Sum.{all}
 use Rattle.quorums.specs.Accounts.{Accounts, weight}
 use Rattle.config.specs.Cluster.{startOf, aboveOf}
 use Rattle.config.specs.declared.cluster.Config.{Config}
+use Rattle.ledger.specs.Ledgers.{receivedOf, givenOf}
+use Rattle.ledger.specs.Tables.{table}
+use Rattle.message.specs.Answers.{receiveOf}
 
 abbrev pub accountsIn : Config → List ℕ → List ℕ → Accounts
 accountsIn c received given = record { start = startOf c; received = λ i. getD received i 0; given = λ i. getD given i 0 }
@@ -20,3 +23,8 @@ allAbove c received given = all (c .n) (λ i. aboveOf c (weight (accountsIn c re
 pub record Sums (most : ℕ) (l : List ℕ) : Type 0 where
   pub size : length l ≡ 16
   pub small : (k : ℕ) → getD l k 0 ≤ most
+
+-- two lists of what each server of a message's sheet received, and of what it gave
+pub record SheetSums (c : Config) (msg received given : List ℕ) : Type 0 where
+  pub takes : received ≡ table 16 (receivedOf (receiveOf c msg .replica .ledger))
+  pub gives : given ≡ table 16 (givenOf (receiveOf c msg .replica .ledger))

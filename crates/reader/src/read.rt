@@ -1,12 +1,13 @@
 // The calls.
 use super::scan::fault;
-use super::scan::scan;
+use super::scan::weigh_message;
 use super::sums::is_quorum;
 use super::sums::weight_of;
 use super::whole::received_in;
 use super::whole::register_in;
 use config::Config;
 use config::Decision;
+use config::Meaning;
 use config::Refusal;
 use config::Signed;
 use config::Verdict;
@@ -21,14 +22,10 @@ ghost use Rattle.reader.specs.Weighings.{weightIn, quorumIn};
 pub fn check(config: Config, msg: &[u8]) -> Verdict
     ensures { λ r. ⌜ r ≡ checkAnswer config (now (msg .entry)) ⌝ }
 {
-    if !config.valid() {
-        return Verdict::Refused(Refusal::BadHouse);
+    match fault(config, msg) {
+        Meaning::Refusal(r) => Verdict::Refused(r),
+        Meaning::None => Verdict::Accepted,
     }
-    let number = fault(config, msg);
-    if number != 0 {
-        return Verdict::Refused(Refusal::of(number));
-    }
-    Verdict::Accepted
 }
 
 // What a message says: its envelope and its replica, or the refusal that `check` gives beside a blank envelope and a fresh replica. They are taken once
@@ -36,14 +33,10 @@ pub fn check(config: Config, msg: &[u8]) -> Verdict
 pub fn receive(config: Config, msg: &[u8]) -> Received
     ensures { λ r. ⌜ r ≡ receiveOf config (now (msg .entry)) ⌝ }
 {
-    if !config.valid() {
-        return Received::refused(Refusal::BadHouse);
+    match fault(config, msg) {
+        Meaning::Refusal(r) => Received::refused(r),
+        Meaning::None => received_in(config, msg),
     }
-    let number = fault(config, msg);
-    if number != 0 {
-        return Received::refused(Refusal::of(number));
-    }
-    received_in(config, msg)
 }
 
 // The same but for the value.
@@ -71,13 +64,9 @@ pub fn fields(config: Config, msg: &[u8]) -> Fields
 pub fn value(config: Config, msg: &[u8]) -> &[u8]
     ensures { λ r. ⌜ now r ≡ valueAnswer config (now (msg .entry)) ⌝ }
 {
-    if !config.valid() {
+    let Meaning::None = fault(config, msg) else {
         return &msg[..0];
-    }
-    let refused = fault(config, msg);
-    if refused != 0 {
-        return &msg[..0];
-    }
+    };
     let register = register_in(config, msg);
     let from = register.from;
     let end = from + (register.length as usize);
@@ -88,14 +77,10 @@ pub fn value(config: Config, msg: &[u8]) -> &[u8]
 pub fn weight(config: Config, server: u64, msg: &[u8]) -> Signed
     ensures { λ r. ⌜ r ≡ weightIn config server (now (msg .entry)) ⌝ }
 {
-    if !config.valid() {
-        return Signed::Refused(Refusal::BadHouse);
-    }
     let mut received: [u64; 16] = [0; 16];
     let mut given: [u64; 16] = [0; 16];
-    let number = scan(config, msg, &mut received, &mut given);
-    if number != 0 {
-        return Signed::Refused(Refusal::of(number));
+    if let Meaning::Refusal(r) = weigh_message(config, msg, &mut received, &mut given) {
+        return Signed::Refused(r);
     }
     if !config.has(server) {
         return Signed::Refused(Refusal::BadHouse);
@@ -107,14 +92,10 @@ pub fn weight(config: Config, server: u64, msg: &[u8]) -> Signed
 pub fn quorum(config: Config, map: u64, msg: &[u8]) -> Decision
     ensures { λ r. ⌜ r ≡ quorumIn config map (now (msg .entry)) ⌝ }
 {
-    if !config.valid() {
-        return Decision::Refused(Refusal::BadHouse);
-    }
     let mut received: [u64; 16] = [0; 16];
     let mut given: [u64; 16] = [0; 16];
-    let number = scan(config, msg, &mut received, &mut given);
-    if number != 0 {
-        return Decision::Refused(Refusal::of(number));
+    if let Meaning::Refusal(r) = weigh_message(config, msg, &mut received, &mut given) {
+        return Decision::Refused(r);
     }
     let n = config.n as u32;
     if map >> n != 0 {

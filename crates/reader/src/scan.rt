@@ -8,17 +8,21 @@ use super::register::read_register;
 use super::sums::above_floor;
 use super::weigh::weigh_sheet;
 use config::Config;
+use config::Meaning;
+use config::Refusal;
 use message::Cursor;
 ghost use mathlib.Core.Path.{_≡_};
 ghost use mathlib.Core.Bool.{true};
 ghost use lib.Dec.{eqb};
 ghost use lib.ListN.{length, replicate};
 ghost use Rattle.config.specs.Cluster.{validOf};
+ghost use Rattle.config.specs.Refusals.{meaning};
 ghost use Rattle.ledger.specs.Ledgers.{receivedOf, givenOf};
 ghost use Rattle.ledger.specs.Tables.{table};
 ghost use Rattle.message.specs.Cursors.{require as requireOf};
 ghost use Rattle.message.specs.Scans.{scanOf};
-ghost use Rattle.reader.specs.Sums.{Sums, allAbove};
+ghost use Rattle.message.specs.Answers.{check};
+ghost use Rattle.reader.specs.Sums.{Sums, SheetSums, allAbove};
 
 // No bytes are left over, and every weight is above the floor.
 pub(crate) fn finish(
@@ -60,12 +64,28 @@ pub(crate) fn scan(config: Config, msg: &[u8], received: &mut [u64], given: &mut
     end.number
 }
 
-// The same, where the weights are not asked for.
-pub(crate) fn fault(config: Config, msg: &[u8]) -> u64
-    requires { ⌜ validOf config ≡ true ⌝ }
-    ensures { λ r. ⌜ r ≡ scanOf config (now (msg .entry)) .number ⌝ }
+// What the number of the message check stands for: 1 for the cluster, then the first fault. Where it is none, what each server of the sheet received and gave
+// is in the two lists, which were zeros.
+pub(crate) fn weigh_message(
+    config: Config,
+    msg: &[u8],
+    received: &mut [u64],
+    given: &mut [u64],
+) -> Meaning
+    requires { ⌜ (now received ≡ replicate 16 0) × (now given ≡ replicate 16 0) ⌝ }
+    ensures { λ r. ⌜ (r ≡ meaning (check config (now (msg .entry)))) × (check config (now (msg .entry)) ≡ 0 → SheetSums config (now (msg .entry)) (now (received .exit)) (now (given .exit))) ⌝ }
+{
+    if !config.valid() {
+        return Meaning::Refusal(Refusal::BadHouse);
+    }
+    Refusal::of(scan(config, msg, received, given))
+}
+
+// The same, where the sums are not asked for.
+pub(crate) fn fault(config: Config, msg: &[u8]) -> Meaning
+    ensures { λ r. ⌜ r ≡ meaning (check config (now (msg .entry))) ⌝ }
 {
     let mut received: [u64; 16] = [0; 16];
     let mut given: [u64; 16] = [0; 16];
-    scan(config, msg, &mut received, &mut given)
+    weigh_message(config, msg, &mut received, &mut given)
 }
