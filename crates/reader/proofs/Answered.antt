@@ -7,7 +7,7 @@ use mathlib.Core.Bool.{true, false, cond}
 use mathlib.Core.List.{List}
 use lib.Dec.{eqb}
 use lib.ListN.{length}
-use borrow.Author.Tests.{eq-eqb, ne-eqb}
+use borrow.Author.Tests.{eq-eqb, ne-eqb, le-ltb}
 use Rattle.quorums.specs.Accounts.{weight, quorum}
 use Rattle.config.specs.Cluster.{validOf, serverOf}
 use Rattle.config.specs.Refusals.{mostRefusal, refusal, meaning}
@@ -124,9 +124,9 @@ module _ (c : Config) (msg : List ℕ) {received given : List ℕ} (passed : che
 
 -- a server that there isn't, and a map with a bit from n on
 
-pub server-refused : (c : Config) (i : ℕ) (msg : List ℕ) → check c msg ≡ 0 → serverOf c i ≡ false → Signed.Refused (refusal 1) ≡ weightIn c i msg
-unfolding weightIn weightAnswer
-server-refused c i msg e s = simp (e, s)
+pub server-refused : (c : Config) (i : ℕ) (msg : List ℕ) → check c msg ≡ 0 → c .n ≤ i → Signed.Refused (refusal 1) ≡ weightIn c i msg
+unfolding weightIn weightAnswer serverOf
+server-refused c i msg e h = simp (e, check-told c msg e .0, le-ltb i (c .n) h)
 
 pub map-refused : (c : Config) (m : ℕ) (msg : List ℕ) → check c msg ≡ 0 → mapOf c m ≡ false → Decision.Refused (refusal 1) ≡ quorumIn c m msg
 unfolding quorumIn quorumAnswer

@@ -82,7 +82,7 @@ pub fn weight(config: Config, server: u64, msg: &[u8]) -> Signed
     if let Meaning::Refusal(r) = weigh_message(config, msg, &mut received, &mut given) {
         return Signed::Refused(r);
     }
-    if !config.has(server) {
+    if config.n <= server {
         return Signed::Refused(Refusal::BadHouse);
     }
     Signed::Value(weight_of(config, &received, &given, server))

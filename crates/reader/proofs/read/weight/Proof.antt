@@ -2,11 +2,12 @@
 use mathlib.Core.Path.{_≡_, sym, ap, _∙_}
 use mathlib.Core.Bool.{true}
 use borrow.Author.Needs.{needs}
-use borrow.Author.Tests.{not-true, not-false}
-use Rattle.config.specs.Cluster.{serverOf}
+use Rattle.config.specs.Cluster.{validOf, serverOf}
 use Rattle.config.specs.declared.answer.Signed.{Signed}
+use Rattle.config.proofs.Clusters.{valid-server}
 use Rattle.ledger.proofs.Answers.{read-back}
 use Rattle.message.specs.Answers.{check}
+use Rattle.message.proofs.Rounds.{check-told}
 use Rattle.reader.specs.Weighings.{weightIn}
 use Rattle.reader.proofs.Answered.{refusal-meant, none-meant, sheet-small, weight-answered, server-refused}
 use Rattle.reader.proofs.read.weight.Statement.{statement}
@@ -26,12 +27,15 @@ refused c = c .before .before .before .before .before
 abbrev matched : tie.Else1 → tie.After-enum-told
 matched c = c .before .before
 
--- where it found none, there is no fault
+-- where it found none, there is no fault, and the cluster is within bounds
 passed : (c : tie.After-enum-told) → let a = start (weighed c) .args in check (a .config) (a .msg .now) ≡ 0
 passed c = none-meant _ _ (sym (weighed c .weigh-message .ensures .0) ∙ c .enum-told .given .1)
 
+valid : (c : tie.After-enum-told) → validOf (start (weighed c) .args .config) ≡ true
+valid c = check-told _ _ (passed c) .0
+
 server : (c : tie.Else1) → let a = start (weighed (matched c)) .args in serverOf (a .config) (a .server) ≡ true
-server c = sym (c .before .has .ensures) ∙ not-false _ (c .if1 .left)
+server c = valid-server _ _ (valid (matched c)) (c .if1 .left)
 
 slice-aggregate-weigh-message : tie.Need-slice-aggregate-weigh-message
 slice-aggregate-weigh-message c = search needs
@@ -52,11 +56,8 @@ returns c = refusal-meant _ _ _ _ Signed.Refused (sym (refused c .weigh-message 
 enum-told : tie.Need-enum-told
 enum-told c = search needs
 
-has-requires : tie.Need-has-requires
-has-requires c κs = search needs
-
 returns-2 : tie.Need-returns-2
-returns-2 c = server-refused _ _ _ (passed (c .before .before)) (sym (c .before .has .ensures) ∙ not-true _ (c .if1 .taken))
+returns-2 c = server-refused _ _ _ (passed (c .before .before)) (c .if1 .taken)
 
 slice-aggregate-weight-of : tie.Need-slice-aggregate-weight-of
 slice-aggregate-weight-of c = search needs
@@ -88,7 +89,6 @@ weight-spec =
     enum-known-r
     returns
     enum-told
-    has-requires
     returns-2
     slice-aggregate-weight-of
     slice-aggregate-weight-of-2
