@@ -1,6 +1,5 @@
--- Laws, in reading order: bytes over a buffer, numbers and values, maps, what a call knows of its arguments, rows, whole messages,
--- and the answers.
-pub mod Overs
+-- Laws, in reading order: bytes written from a place on, numbers and values, maps, rows, whole messages, and the answers.
+pub mod Places
 pub mod Puts
 pub mod Outlines
 pub mod Rows

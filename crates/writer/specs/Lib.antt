@@ -1,2 +1,3 @@
--- Definitions: what stands in a message, and its size.
+-- Definitions: what stands in a message, and its size; bytes written from a place on.
 pub mod Outlines
+pub mod Places

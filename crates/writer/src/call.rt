@@ -35,8 +35,9 @@ pub fn write(
     if ((out.len() - at) as u64) < plan.bytes {
         return Number::Refused(Refusal::Narrow);
     }
-    let written = fill(
-        &mut out[at..],
+    let end = fill(
+        out,
+        at,
         config,
         envelope,
         register,
@@ -45,5 +46,5 @@ pub fn write(
         plan.map,
         rows,
     );
-    Number::Value((at + written) as u64)
+    Number::Value(end as u64)
 }
