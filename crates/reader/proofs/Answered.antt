@@ -1,23 +1,17 @@
 -- What is answered, from what the number of the check stands for and from the sums of the sheet.
-use Prim.Native.Nat.{ℕ, _+_, _<_, _≤_}
-use native.Mathlib.Omega.{arith}
+use Prim.Native.Nat.{ℕ, _+_, _≤_}
 use mathlib.Core.Path.{_≡_, sym, ap, ap₂, _∙_}
-use mathlib.Core.Logic.{⊎-elim}
-use mathlib.Core.Bool.{true, false, cond}
+use mathlib.Core.Bool.{true, false}
 use mathlib.Core.List.{List}
-use lib.Dec.{eqb}
 use lib.ListN.{length}
-use borrow.Author.Tests.{eq-eqb, ne-eqb, le-ltb}
+use borrow.Author.Tests.{eq-eqb, le-ltb}
 use Rattle.quorums.specs.Accounts.{weight, quorum}
 use Rattle.config.specs.Cluster.{validOf, serverOf}
-use Rattle.config.specs.Refusals.{mostRefusal, refusal, meaning}
+use Rattle.config.specs.Refusals.{refusal}
 use Rattle.config.specs.Answers.{decide}
 use Rattle.config.specs.declared.cluster.Config.{Config}
-use Rattle.config.specs.declared.answer.Refusal.{Refusal}
-use Rattle.config.specs.declared.answer.Meaning.{Meaning}
 use Rattle.config.specs.declared.answer.Signed.{Signed}
 use Rattle.config.specs.declared.answer.Decision.{Decision}
-use Rattle.config.proofs.Refusals.{meaning-told, meaning-none}
 use Rattle.format.specs.Bytes.{bit}
 use Rattle.ledger.specs.Ledgers.{receivedOf, givenOf, Typed}
 use Rattle.ledger.specs.Maps.{named, mapOf}
@@ -27,7 +21,6 @@ use Rattle.message.specs.Scans.{headOf, registerOf, scanOf}
 use Rattle.message.specs.declared.state.RegisterRead.{RegisterRead}
 use Rattle.message.specs.declared.answer.Received.{Received}
 use Rattle.message.specs.Answers.{check, valuePart, receiveOf, valueAnswer}
-use Rattle.message.proofs.Numbers.{check-most}
 use Rattle.message.proofs.Parts.{value-within}
 use Rattle.message.proofs.Rounds.{check-told, received}
 use Rattle.message.proofs.SheetBacks.{ledger-typed}
@@ -44,17 +37,6 @@ check-invalid c msg e = simp e
 pub check-found : (c : Config) (msg : List ℕ) (k : ℕ) → validOf c ≡ true → k ≡ scanOf c msg .number → check c msg ≡ k
 unfolding check
 check-found c msg k v e = simp v (sym e)
-
--- where it stands for a refusal, an answer that is made of the refusal of the number is made of this one
-pub refusal-meant : {A : Type 0} (c : Config) (msg : List ℕ) (r : Refusal) (x : A) (f : Refusal → A) → meaning (check c msg) ≡ Meaning.Refusal r
-    → f r ≡ cond (eqb (check c msg) 0) x (f (refusal (check c msg)))
-refusal-meant c msg r x f e =
-    let t = meaning-told (check c msg) r e in rw (ne-eqb (check c msg) 0 (λ z. omega (arith, t .2))) (ap f (t .0))
-
--- where it stands for none, there is no fault, because the check gives no number above the largest
-pub none-meant : (c : Config) (msg : List ℕ) → meaning (check c msg) ≡ Meaning.None → check c msg ≡ 0
-none-meant c msg e =
-    ⊎-elim (λ (z : check c msg ≡ 0). z) (λ (h : mostRefusal < check c msg). absurd (omega (arith, check-most c msg))) (meaning-none (check c msg) .0 e)
 
 -- ---- the value, from the register
 

@@ -2,22 +2,31 @@
 use Prim.Native.Nat.{ℕ, _+_, _≤_, _<_}
 use mathlib.Core.Path.{_≡_, ap}
 use mathlib.Core.List.{List}
-use borrow.Author.Tests.{eq-eqb, ne-eqb, le-leb, lt-leb}
+use borrow.Author.Tests.{eq-eqb, le-leb, lt-leb}
 use lib.ListN.{length}
 use Rattle.config.specs.declared.cluster.Config.{Config}
 use Rattle.config.specs.declared.answer.Number.{Number}
-use Rattle.config.specs.Refusals.{refusal}
+use Rattle.config.specs.declared.answer.Refusal.{Refusal}
+use Rattle.config.specs.declared.answer.Meaning.{Meaning}
+use Rattle.config.specs.Refusals.{refusal, meaning}
 use Rattle.replica.specs.declared.replica.Replica.{Replica}
 use Rattle.message.specs.declared.envelope.Envelope.{Envelope}
 use Rattle.message.specs.Envelopes.{messageOf}
-use Rattle.message.specs.Answers.{check, fits, place, writeOf}
+use Rattle.message.specs.Answers.{Written, check, fits, place, writeOf}
+use Rattle.message.proofs.Numbers.{refusal-meant}
 use Rattle.writer.specs.Places.{onto}
 
+-- nothing is written
+abbrev unwritten : List ℕ → Refusal → Written
+unwritten out k = record { answer = Number.Refused k; out = out }
+
 module _ (c : Config) (e : Envelope) (r : Replica) (out : List ℕ) (at : ℕ) where
-  pub write-refused : (k : ℕ) → check c (messageOf c e r) ≡ k → (k ≡ 0 → ⊥)
-      → (Number.Refused (refusal k) ≡ writeOf c e r out at .answer) × (out ≡ writeOf c e r out at .out)
+  pub write-refused : (k : Refusal) → meaning (check c (messageOf c e r)) ≡ Meaning.Refusal k
+      → (Number.Refused k ≡ writeOf c e r out at .answer) × (out ≡ writeOf c e r out at .out)
   unfolding writeOf
-  write-refused k found ne = let no-write = ne-eqb k 0 ne in (rw (found, no-write), rw (found, no-write))
+  write-refused k found =
+      let w = refusal-meant c (messageOf c e r) k (place (messageOf c e r) out at) (unwritten out) found in
+      (ap (λ (x : Written). x .answer) w, ap (λ (x : Written). x .out) w)
 
   pub write-narrow : check c (messageOf c e r) ≡ 0 → length out < at + length (messageOf c e r)
       → (Number.Refused (refusal 13) ≡ writeOf c e r out at .answer) × (out ≡ writeOf c e r out at .out)

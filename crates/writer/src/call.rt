@@ -4,6 +4,7 @@ use super::outline::mark_rows;
 use super::outline::measure;
 use super::whole::fill;
 use config::Config;
+use config::Meaning;
 use config::Number;
 use config::Refusal;
 use message::Envelope;
@@ -22,9 +23,8 @@ pub fn write(
 ) -> Number
     ensures { λ r. ⌜ (r ≡ writeOf config envelope replica (now (out .entry)) at .answer) × (now (out .exit) ≡ writeOf config envelope replica (now (out .entry)) at .out) ⌝ }
 {
-    let found = fault(config, envelope, replica);
-    if found != 0 {
-        return Number::Refused(Refusal::of(found));
+    if let Meaning::Refusal(r) = fault(config, envelope, replica) {
+        return Number::Refused(r);
     }
     let register = replica.register;
     let rows = mark_rows(&replica.ledger.counts, &replica.ledger.cells);

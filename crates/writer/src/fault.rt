@@ -1,9 +1,12 @@
-// The number that the reader would give for the bytes of an envelope and a replica.
+// What the reader would say of the bytes of an envelope and a replica.
 use config::Config;
+use config::Meaning;
+use config::Refusal;
 use config::Verdict;
 use message::Envelope;
 use replica::Replica;
 ghost use mathlib.Core.Path.{_≡_};
+ghost use Rattle.config.specs.Refusals.{meaning};
 ghost use Rattle.message.specs.Faults.{kindFits, faultOf};
 
 // Whether the fields that stand are those that the kind has.
@@ -25,34 +28,35 @@ pub(crate) fn kind_fits(kind: u8, desk: u16, round: u32, note: u32) -> bool
     round != 0
 }
 
-pub(crate) fn fault(config: Config, envelope: Envelope, replica: Replica) -> u64
-    ensures { λ r. ⌜ r ≡ faultOf config envelope replica ⌝ }
+// The refusal that the reader would give, or none.
+pub(crate) fn fault(config: Config, envelope: Envelope, replica: Replica) -> Meaning
+    ensures { λ r. ⌜ r ≡ meaning (faultOf config envelope replica) ⌝ }
 {
     let register = replica.register;
     let ledger = replica.ledger;
     if !config.valid() {
-        return 1;
+        return Meaning::Refusal(Refusal::BadHouse);
     }
     if envelope.kind < 1 {
-        return 4;
+        return Meaning::Refusal(Refusal::OddField);
     }
     if 3 < envelope.kind {
-        return 4;
+        return Meaning::Refusal(Refusal::OddField);
     }
     if !kind_fits(envelope.kind, envelope.desk, envelope.round, envelope.note) {
-        return 3;
+        return Meaning::Refusal(Refusal::BadMap);
     }
     if config.n <= (envelope.server as u64) {
-        return 4;
+        return Meaning::Refusal(Refusal::OddField);
     }
     if !register.fits(config) {
-        return 4;
+        return Meaning::Refusal(Refusal::OddField);
     }
     match ledger.check_bounds(config) {
         Verdict::Accepted => match ledger.check_floor(config) {
-            Verdict::Accepted => 0,
-            Verdict::Refused(_) => 5,
+            Verdict::Accepted => Meaning::None,
+            Verdict::Refused(_) => Meaning::Refusal(Refusal::Light),
         },
-        Verdict::Refused(_) => 4,
+        Verdict::Refused(_) => Meaning::Refusal(Refusal::OddField),
     }
 }

@@ -4,7 +4,7 @@ use borrow.Author.Needs.{needs}
 use Rattle.config.specs.declared.answer.Verdict.{Verdict}
 use Rattle.message.specs.Answers.{checkAnswer, verdictOf}
 use Rattle.message.proofs.Numbers.{check-accepted}
-use Rattle.reader.proofs.Answered.{refusal-meant, none-meant}
+use Rattle.message.proofs.Numbers.{refusal-meant, none-meant}
 use Rattle.reader.proofs.read.check.Statement.{statement}
 use Rattle.reader.proofs.read.check.Tie as tie
 

@@ -16,7 +16,8 @@ use Rattle.ledger.proofs.Maps.{shifted-zero}
 use Rattle.message.specs.Answers.{check}
 use Rattle.message.proofs.Rounds.{check-told}
 use Rattle.reader.specs.Weighings.{quorumIn}
-use Rattle.reader.proofs.Answered.{refusal-meant, none-meant, sheet-small, quorum-answered, map-refused}
+use Rattle.message.proofs.Numbers.{refusal-meant, none-meant}
+use Rattle.reader.proofs.Answered.{sheet-small, quorum-answered, map-refused}
 use Rattle.reader.proofs.read.quorum.Statement.{statement}
 use Rattle.reader.proofs.read.quorum.Tie as tie
 

@@ -3,7 +3,7 @@ use mathlib.Core.Path.{sym, _∙_}
 use borrow.Author.Needs.{needs}
 use Rattle.message.specs.Answers.{refusedOf, receiveOf}
 use Rattle.message.proofs.Rounds.{check-told}
-use Rattle.reader.proofs.Answered.{refusal-meant, none-meant}
+use Rattle.message.proofs.Numbers.{refusal-meant, none-meant}
 use Rattle.reader.proofs.read.receive.Statement.{statement}
 use Rattle.reader.proofs.read.receive.Tie as tie
 

@@ -7,7 +7,8 @@ use borrow.Author.Needs.{needs}
 use lib.ListN.{length}
 use Rattle.message.specs.Answers.{check, valueAnswer}
 use Rattle.message.proofs.Rounds.{check-told}
-use Rattle.reader.proofs.Answered.{refusal-meant, none-meant, register-within, register-value}
+use Rattle.message.proofs.Numbers.{refusal-meant, none-meant}
+use Rattle.reader.proofs.Answered.{register-within, register-value}
 use Rattle.reader.proofs.read.value.Statement.{statement}
 use Rattle.reader.proofs.read.value.Tie as tie
 

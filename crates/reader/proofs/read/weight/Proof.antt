@@ -9,7 +9,8 @@ use Rattle.ledger.proofs.Answers.{read-back}
 use Rattle.message.specs.Answers.{check}
 use Rattle.message.proofs.Rounds.{check-told}
 use Rattle.reader.specs.Weighings.{weightIn}
-use Rattle.reader.proofs.Answered.{refusal-meant, none-meant, sheet-small, weight-answered, server-refused}
+use Rattle.message.proofs.Numbers.{refusal-meant, none-meant}
+use Rattle.reader.proofs.Answered.{sheet-small, weight-answered, server-refused}
 use Rattle.reader.proofs.read.weight.Statement.{statement}
 use Rattle.reader.proofs.read.weight.Tie as tie
 

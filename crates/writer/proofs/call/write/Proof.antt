@@ -6,7 +6,7 @@ use mathlib.Core.List.{List}
 use borrow.Author.Needs.{needs}
 use denote.Ref.{now}
 use lib.ListN.{length}
-use Rattle.config.specs.declared.answer.Number.{Number}
+use Rattle.config.specs.Refusals.{meaning}
 use Rattle.ledger.specs.Ledgers.{givenOf, Typed as TypedLedger}
 use Rattle.ledger.proofs.Totals.{count-empty}
 use Rattle.format.specs.Table.{fieldMapOf}
@@ -18,6 +18,7 @@ use Rattle.replica.proofs.Replicas.{Fits, fits-told}
 use Rattle.replica.proofs.Ranges.{replica-is-typed}
 use Rattle.message.specs.Envelopes.{fieldsOf, messageOf, Typed}
 use Rattle.message.specs.Answers.{check}
+use Rattle.message.proofs.Numbers.{none-meant}
 use Rattle.message.proofs.Ranges.{envelope-is-typed}
 use Rattle.message.proofs.Faults.{fault-is-check}
 use Rattle.message.proofs.Found.{taken-told}
@@ -32,29 +33,29 @@ use Rattle.writer.proofs.call.write.Tie as tie
 abbrev begun : tie.After-fault → tie.Start
 begun c = c .before .before
 
-abbrev lent-rows : tie.After-mark-rows-arg4 → tie.Else1
+abbrev lent-rows : tie.After-mark-rows-arg4 → tie.After-enum-told
 lent-rows c = c .before .before .before .before .before .before
 
-abbrev passed : tie.After-mark-rows → tie.Else1
+abbrev passed : tie.After-mark-rows → tie.After-enum-told
 passed c = lent-rows (c .before)
 
-abbrev measured : tie.Else3 → tie.After-measure
+abbrev measured : tie.Else2 → tie.After-measure
 measured c = c .before .before .before
 
 -- the test passed last before the call of `fill`
-abbrev lent-fill : tie.After-fill-arg5 → tie.Else3
+abbrev lent-fill : tie.After-fill-arg5 → tie.Else2
 lent-fill c = c .before .before .before .before .before .before
 
-abbrev widened : tie.After-fill → tie.Else3
+abbrev widened : tie.After-fill → tie.Else2
 widened c = lent-fill (c .before)
 
-abbrev start : tie.Else1 → tie.Start
-start c = begun (c .before)
+abbrev start : tie.After-enum-told → tie.Start
+start c = begun (c .before .before)
 
 abbrev planned : tie.After-measure → tie.Start
 planned c = start (passed (c .before))
 
-abbrev entered : tie.Else3 → tie.Start
+abbrev entered : tie.Else2 → tie.Start
 entered c = planned (measured c)
 
 -- ---- the arguments: the replica, whose arrays are lent out of it, the message, and the reader's number for it
@@ -74,25 +75,25 @@ envelope-typed s = envelope-is-typed (s .args .envelope) _ (s .good .1 .0)
 typed : (s : tie.Start) → TypedReplica (carried s)
 typed s = replica-is-typed (carried s) _ (s .good .1 .1 .0)
 
--- the writer's number is the reader's
-found : (c : tie.After-fault) → number (begun c) ≡ c .fault .result
-found c = fault-is-check _ _ _ (envelope-typed (begun c)) (typed (begun c)) ∙ sym (c .fault .ensures)
+-- what the writer found is what the reader's number stands for
+found : (c : tie.After-fault) → meaning (number (begun c)) ≡ c .fault .result
+found c = ap meaning (fault-is-check _ _ _ (envelope-typed (begun c)) (typed (begun c))) ∙ sym (c .fault .ensures)
 
 -- ---- a message that the reader takes: its value is short, and its ledger is within bounds, where a row whose count is 0 is empty
 
-taken : (c : tie.Else1) → number (start c) ≡ 0
-taken c = found (c .before) ∙ c .if1 .left
+taken : (c : tie.After-enum-told) → number (start c) ≡ 0
+taken c = none-meant _ _ (found (c .before .before) ∙ c .enum-told .given .1)
 
-told : (c : tie.Else1) → Fits (start c .args .config) (carried (start c))
+told : (c : tie.After-enum-told) → Fits (start c .args .config) (carried (start c))
 told c = fits-told _ _ (taken-told _ _ _ (envelope-typed (start c)) (typed (start c)) .0 (taken c) .1)
 
-sized : (c : tie.Else1) → TypedLedger (carried (start c) .ledger)
+sized : (c : tie.After-enum-told) → TypedLedger (carried (start c) .ledger)
 sized c = typed (start c) .ledger-typed
 
-short : (c : tie.Else1) → carried (start c) .register .value .length ≤ 64
+short : (c : tie.After-enum-told) → carried (start c) .register .value .length ≤ 64
 short c = fits-short _ (fits-value _ _ (told c .register-fits))
 
-counted : (c : tie.Else1) → Counted (carried (start c) .ledger .counts) (carried (start c) .ledger .cells)
+counted : (c : tie.After-enum-told) → Counted (carried (start c) .ledger .counts) (carried (start c) .ledger .cells)
 unfolding givenOf
 counted c i h = count-empty _ _ i (told c .ledger-bounded) h .0
 
@@ -115,21 +116,22 @@ size-is c =
     ∙ sym (message-length (a .config) (a .envelope) r)
 
 -- the message has room
-room : (c : tie.Else3) → entered c .args .at + length (message (entered c)) ≤ length (now (entered c .args .out))
-room c = omega (arith, c .if3 .left, c .before .before .if2 .left, size-is (measured c))
+room : (c : tie.Else2) → entered c .args .at + length (message (entered c)) ≤ length (now (entered c .args .out))
+room c = omega (arith, c .if2 .left, c .before .before .if1 .left, size-is (measured c))
 
 -- ---- what each call asks, and what is handed back
 
 fault-requires : tie.Need-fault-requires
 fault-requires c κs = search needs
 
-of-requires : tie.Need-of-requires
-of-requires c κs = search needs
+enum-known-r : tie.Need-enum-known-r
+enum-known-r c = search needs
 
 returns : tie.Need-returns
-returns c =
-    let r = write-refused _ _ _ _ _ _ (found (c .before .before)) (c .before .if1 .taken) in
-    (ap Number.Refused (c .of .ensures) ∙ r .0, r .1)
+returns c = write-refused _ _ _ _ _ _ (found (c .before .before .before) ∙ c .before .r .given .1)
+
+enum-told : tie.Need-enum-told
+enum-told c = search needs
 
 mark-rows-requires : tie.Need-mark-rows-requires
 mark-rows-requires c κs =
@@ -140,15 +142,15 @@ measure-requires : tie.Need-measure-requires
 measure-requires c κs = (short (passed c), c .mark-rows .ensures .3, c .mark-rows .ensures .4)
 
 returns-2 : tie.Need-returns-2
-returns-2 c = write-narrow _ _ _ _ _ (taken (passed (c .before .before))) (omega (arith, c .if2 .taken))
+returns-2 c = write-narrow _ _ _ _ _ (taken (passed (c .before .before))) (omega (arith, c .if1 .taken))
 
-sub-if3 : tie.Need-sub-if3
-sub-if3 c = omega (arith, c .if2 .left)
+sub-if2 : tie.Need-sub-if2
+sub-if2 c = omega (arith, c .if1 .left)
 
 returns-3 : tie.Need-returns-3
 returns-3 c =
     let plan = c .before .before .before in
-    write-narrow _ _ _ _ _ (taken (passed (plan .before))) (omega (arith, c .if3 .taken, c .before .before .if2 .left, size-is plan))
+    write-narrow _ _ _ _ _ (taken (passed (plan .before))) (omega (arith, c .if2 .taken, c .before .before .if1 .left, size-is plan))
 
 fill-requires : tie.Need-fill-requires
 fill-requires c κs =
@@ -172,12 +174,13 @@ write-spec =
     tie.close
     (tie.spec
     fault-requires
-    of-requires
+    enum-known-r
     returns
+    enum-told
     mark-rows-requires
     measure-requires
     returns-2
-    sub-if3
+    sub-if2
     returns-3
     fill-requires
     same-length
