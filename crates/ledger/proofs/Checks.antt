@@ -3,14 +3,14 @@ use Prim.Native.Nat.{ℕ}
 use native.Mathlib.Omega.{arith}
 use mathlib.Core.Path.{_≡_, refl, sym}
 use mathlib.Core.Bool.{Bool, true, false, cond}
-use Rattle.quorums.proofs.Tests.{both, chosen-first, chosen-second}
+use Rattle.quorums.proofs.Tests.{chosen-first, chosen-second}
 use Rattle.config.specs.Cluster.{validOf}
 use Rattle.config.specs.declared.cluster.Config.{Config}
 use Rattle.config.specs.Refusals.{refusal}
 use Rattle.config.specs.declared.answer.Refusal.{Refusal}
 use Rattle.config.specs.declared.answer.Verdict.{Verdict}
 use Rattle.ledger.specs.declared.ledger.Ledger.{Ledger}
-use Rattle.ledger.specs.Checks.{bounded, aboveFloor, fits, boundsAnswer, floorAnswer, checkAnswer}
+use Rattle.ledger.specs.Checks.{bounded, aboveFloor, boundsAnswer, floorAnswer, checkAnswer}
 
 pub accepted-not-refused : {A : Type 0} (r : Refusal) → Verdict.Accepted ≡ Verdict.Refused r → A
 accepted-not-refused r e = let z : _≡_ {A = ℕ} 0 1 = cc in absurd (omega arith)
@@ -57,26 +57,3 @@ floor-told c l v e = chosen-first (aboveFloor c l) _ _ _ (λ d. accepted-not-ref
 pub floor-refused : (c : Config) (l : Ledger) (r : Refusal) → validOf c ≡ true → floorAnswer c l ≡ Verdict.Refused r → aboveFloor c l ≡ false
 unfolding floorAnswer
 floor-refused c l r v e = chosen-second (aboveFloor c l) _ _ _ (accepted-not-refused r) (rw v at e)
-
--- what an answer of `check` tells
-pub check-fits : (c : Config) (l : Ledger) → checkAnswer c l ≡ Verdict.Accepted → fits c l ≡ true
-unfolding checkAnswer fits
-check-fits c l e =
-    let v = chosen-first (validOf c) _ _ _ (λ d. accepted-not-refused _ (sym d)) e in
-    let b = chosen-first (bounded c l) _ _ _ (λ d. accepted-not-refused _ (sym d)) (v .1) in
-    rw (b .0) (chosen-first (aboveFloor c l) _ _ _ (λ d. accepted-not-refused _ (sym d)) (b .1) .0)
-
-pub check-unfit : (c : Config) (l : Ledger) (r : Refusal) → validOf c ≡ true → checkAnswer c l ≡ Verdict.Refused r → fits c l ≡ false
-unfolding checkAnswer fits
-check-unfit c l r v e = by-tests (bounded c l) (aboveFloor c l) (rw v at e)
-  where
-    by-tests : (b a : Bool) → cond b (cond a Verdict.Accepted (Verdict.Refused (refusal 5))) (Verdict.Refused (refusal 4)) ≡ Verdict.Refused r
-        → cond b a false ≡ false
-    by-tests true true d = accepted-not-refused r d
-    by-tests true false d = refl
-    by-tests false a d = refl
-
--- and what a ledger that fits is
-pub fits-told : (c : Config) (l : Ledger) → fits c l ≡ true → (bounded c l ≡ true) × (aboveFloor c l ≡ true)
-unfolding fits
-fits-told c l e = both (bounded c l) _ e

@@ -27,7 +27,10 @@ impl Ledger {
         if !config.has(giver) {
             return self.refused(Refusal::BadHouse);
         }
-        let Verdict::Accepted = self.check(config) else {
+        let Verdict::Accepted = self.check_bounds(config) else {
+            return self.refused(Refusal::BadHouse);
+        };
+        let Verdict::Accepted = self.check_floor(config) else {
             return self.refused(Refusal::BadHouse);
         };
         if !lawful(config, giver, taker, amount) {

@@ -7,7 +7,10 @@ use lib.ListN.{length}
 use borrow.Author.Tests.{eq-eqb, le-ltb}
 use Rattle.quorums.specs.Accounts.{weight, quorum}
 use Rattle.config.specs.Cluster.{validOf, serverOf}
-use Rattle.config.specs.Refusals.{refusal}
+use Rattle.config.specs.Refusals.{refusal, meaning}
+use Rattle.config.specs.declared.answer.Refusal.{Refusal}
+use Rattle.config.specs.declared.answer.Meaning.{Meaning}
+use Rattle.config.proofs.Refusals.{meaning-number}
 use Rattle.config.specs.Answers.{decide}
 use Rattle.config.specs.declared.cluster.Config.{Config}
 use Rattle.config.specs.declared.answer.Signed.{Signed}
@@ -37,6 +40,15 @@ check-invalid c msg e = simp e
 pub check-found : (c : Config) (msg : List ℕ) (k : ℕ) → validOf c ≡ true → k ≡ scanOf c msg .number → check c msg ≡ k
 unfolding check
 check-found c msg k v e = simp v (sym e)
+
+-- and what it stands for
+
+pub meant-invalid : (c : Config) (msg : List ℕ) → validOf c ≡ false → Meaning.Refusal Refusal.BadHouse ≡ meaning (check c msg)
+meant-invalid c msg e = sym (ap meaning (check-invalid c msg e) ∙ meaning-number Refusal.BadHouse)
+
+pub meant-found : (c : Config) (msg : List ℕ) (k : ℕ) (m : Meaning) → validOf c ≡ true → k ≡ scanOf c msg .number → m ≡ meaning k
+    → m ≡ meaning (check c msg)
+meant-found c msg k m v e is = is ∙ ap meaning (sym (check-found c msg k v e))
 
 -- ---- the value, from the register
 

@@ -64,8 +64,19 @@ pub(crate) fn scan(config: Config, msg: &[u8], received: &mut [u64], given: &mut
     end.number
 }
 
-// What the number of the message check stands for: 1 for the cluster, then the first fault. Where it is none, what each server of the sheet received and gave
-// is in the two lists, which were zeros.
+// What the number of the message check stands for: 1 for the cluster, then the first fault.
+pub(crate) fn fault(config: Config, msg: &[u8]) -> Meaning
+    ensures { λ r. ⌜ r ≡ meaning (check config (now (msg .entry))) ⌝ }
+{
+    if !config.valid() {
+        return Meaning::Refusal(Refusal::BadHouse);
+    }
+    let mut received: [u64; 16] = [0; 16];
+    let mut given: [u64; 16] = [0; 16];
+    Refusal::of(scan(config, msg, &mut received, &mut given))
+}
+
+// The same, and where it is none, what each server of the sheet received and gave in the two lists, which were zeros.
 pub(crate) fn weigh_message(
     config: Config,
     msg: &[u8],
@@ -79,13 +90,4 @@ pub(crate) fn weigh_message(
         return Meaning::Refusal(Refusal::BadHouse);
     }
     Refusal::of(scan(config, msg, received, given))
-}
-
-// The same, where the sums are not asked for.
-pub(crate) fn fault(config: Config, msg: &[u8]) -> Meaning
-    ensures { λ r. ⌜ r ≡ meaning (check config (now (msg .entry))) ⌝ }
-{
-    let mut received: [u64; 16] = [0; 16];
-    let mut given: [u64; 16] = [0; 16];
-    weigh_message(config, msg, &mut received, &mut given)
 }

@@ -1,14 +1,11 @@
 -- `weigh_message` meets its contract: 1 for the cluster, then the number of the scan and its sums.
 use native.Mathlib.Omega.{arith}
-use mathlib.Core.Path.{_≡_, sym, ap, _∙_}
-use mathlib.Core.Bool.{true}
+use mathlib.Core.Path.{_≡_, sym, _∙_}
+use mathlib.Core.Bool.{true, false}
 use borrow.Author.Needs.{needs}
 use borrow.Author.Tests.{not-true, not-false}
 use Rattle.config.specs.Cluster.{validOf}
-use Rattle.config.specs.Refusals.{meaning}
-use Rattle.config.specs.declared.answer.Refusal.{Refusal}
-use Rattle.config.proofs.Refusals.{meaning-number}
-use Rattle.reader.proofs.Answered.{check-invalid, check-found, sums-found}
+use Rattle.reader.proofs.Answered.{check-invalid, meant-invalid, meant-found, sums-found}
 use Rattle.reader.proofs.scan.weigh_message.Statement.{statement}
 use Rattle.reader.proofs.scan.weigh_message.Tie as tie
 
@@ -32,8 +29,8 @@ valid-requires c κs = search needs
 returns : tie.Need-returns
 returns c =
     let a = start (c .before) .args in
-    let number = check-invalid (a .config) (a .msg .now) (sym (c .before .valid .ensures) ∙ not-true _ (c .if1 .taken)) in
-    (sym (ap meaning number ∙ meaning-number Refusal.BadHouse), λ e. absurd (omega (arith, number)))
+    let out : validOf (a .config) ≡ false = sym (c .before .valid .ensures) ∙ not-true _ (c .if1 .taken) in
+    (meant-invalid _ _ out, λ e. absurd (omega (arith, check-invalid (a .config) (a .msg .now) out)))
 
 scan-requires : tie.Need-scan-requires
 scan-requires c κs = let c0 = start (c .before .before .before) in (valid (c .before .before), c0 .pre .0, c0 .pre .1)
@@ -50,8 +47,7 @@ same-length-2 c = search needs
 returns-2 : tie.Need-returns-2
 returns-2 c =
     let scan = scanned c .scan in
-    let number = check-found _ _ _ (valid (tested (scanned c))) (scan .ensures .0) in
-    (c .of .ensures ∙ ap meaning (sym number), λ e. sums-found _ _ e (scan .ensures .1) (scan .ensures .2))
+    (meant-found _ _ _ _ (valid (tested (scanned c))) (scan .ensures .0) (c .of .ensures), λ e. sums-found _ _ e (scan .ensures .1) (scan .ensures .2))
 
 pub weigh-message-spec : {M : Type 1} → statement M
 weigh-message-spec =

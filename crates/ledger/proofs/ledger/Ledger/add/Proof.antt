@@ -6,12 +6,12 @@ use mathlib.Core.Path.{_≡_, sym, _∙_}
 use mathlib.Core.Bool.{true}
 use borrow.Author.Needs.{needs}
 use borrow.Author.Tests.{not-true, not-false, lt-ltb, le-ltb}
-use Rattle.config.specs.Cluster.{serverOf, mostWeight}
+use Rattle.config.specs.Cluster.{validOf, serverOf, mostWeight}
 use Rattle.config.proofs.Clusters.{server-valid, valid-bounds}
 use Rattle.ledger.specs.Ledgers.{countOf, cellOf}
-use Rattle.ledger.specs.Checks.{fits}
+use Rattle.ledger.specs.Checks.{bounded, aboveFloor, fits}
 use Rattle.ledger.specs.Changes.{lawful, mostCount, spares, added, giveAnswer, addAnswer}
-use Rattle.ledger.proofs.Checks.{check-fits, check-unfit, fits-told}
+use Rattle.ledger.proofs.Checks.{bounds-told, bounds-refused, floor-told, floor-refused}
 use Rattle.ledger.proofs.Lines.{above-cells}
 use Rattle.ledger.proofs.Changes.{lawful-told}
 use Rattle.ledger.proofs.Ranges.{ledger-typed}
@@ -24,10 +24,16 @@ use Rattle.ledger.proofs.ledger.Ledger.add.Tie as tie
 abbrev of-giver : tie.Else1 → tie.Start
 of-giver c = c .before .before
 
-abbrev of-ledger : tie.After-enum-told → tie.Else1
-of-ledger c = c .before .before .before
+abbrev of-bounds : tie.After-enum-told → tie.Else1
+of-bounds c = c .before .before .before
 
-abbrev of-taker : tie.Else2 → tie.After-enum-told
+abbrev of-floor : tie.After-enum-told3 → tie.After-enum-told
+of-floor c = c .before .before .before
+
+abbrev of-ledger : tie.After-enum-told3 → tie.Else1
+of-ledger c = of-bounds (of-floor c)
+
+abbrev of-taker : tie.Else2 → tie.After-enum-told3
 of-taker c = c .before .before
 
 abbrev of-count : tie.Else3 → tie.Else2
@@ -45,8 +51,18 @@ start c = of-giver (of-ledger (of-taker c))
 one-of : (c : tie.Else1) → serverOf (of-giver c .args .config) (of-giver c .args .giver) ≡ true
 one-of c = sym (c .before .has .ensures) ∙ not-false _ (c .if1 .left)
 
-sound : (c : tie.After-enum-told) → fits (of-giver (of-ledger c) .args .config) (of-giver (of-ledger c) .args .t1) ≡ true
-sound c = check-fits _ _ (sym (c .before .before .check .ensures) ∙ c .enum-told .given .1)
+valid : (c : tie.Else1) → validOf (of-giver c .args .config) ≡ true
+valid c = server-valid _ _ (one-of c) .0
+
+in-bounds : (c : tie.After-enum-told) → bounded (of-giver (of-bounds c) .args .config) (of-giver (of-bounds c) .args .t1) ≡ true
+in-bounds c = bounds-told _ _ (valid (of-bounds c)) (sym (c .before .before .check-bounds .ensures) ∙ c .enum-told .given .1)
+
+not-light : (c : tie.After-enum-told3) → aboveFloor (of-giver (of-ledger c) .args .config) (of-giver (of-ledger c) .args .t1) ≡ true
+not-light c = floor-told _ _ (valid (of-ledger c)) (sym (c .before .before .check-floor .ensures) ∙ c .enum-told3 .given .1)
+
+sound : (c : tie.After-enum-told3) → fits (of-giver (of-ledger c) .args .config) (of-giver (of-ledger c) .args .t1) ≡ true
+unfolding fits
+sound c = rw (in-bounds (of-floor c)) (not-light c)
 
 legal : (c : tie.Else2) → lawful (start c .args .config) (start c .args .giver) (start c .args .taker) (start c .args .amount) ≡ true
 legal c = sym (c .before .lawful .ensures) ∙ not-false _ (c .if2 .left)
@@ -74,8 +90,8 @@ small : (c : tie.Else4) → start (of-count (of-gift c)) .args .amount ≤ mostW
 small c =
     let e = of-count (of-gift c) in
     let s = server-valid _ _ (one-of (of-ledger (of-taker e))) in
-    let t = fits-told _ _ (sound (of-taker e)) in
-    spared-small _ _ _ _ (s .0) (t .0) (t .1) (s .1) (spared c)
+    let t = of-taker e in
+    spared-small _ _ _ _ (s .0) (in-bounds (of-floor t)) (not-light t) (s .1) (spared c)
 
 roomy : (c : tie.Else4) →
     let a = start (of-count (of-gift c)) .args in
@@ -83,8 +99,8 @@ roomy : (c : tie.Else4) →
 roomy c =
     let e = of-count (of-gift c) in
     let s = server-valid _ _ (one-of (of-ledger (of-taker e))) in
-    let t = fits-told _ _ (sound (of-taker e)) in
-    spared-room _ _ _ _ _ (s .0) (t .0) (t .1) (s .1) (lawful-told _ _ _ _ (legal e) .1) (counted (of-gift c)) (spared c)
+    let t = of-taker e in
+    spared-room _ _ _ _ _ (s .0) (in-bounds (of-floor t)) (not-light t) (s .1) (lawful-told _ _ _ _ (legal e) .1) (counted (of-gift c)) (spared c)
 
 has-requires : tie.Need-has-requires
 has-requires c κs = search needs
@@ -96,8 +112,8 @@ returns : tie.Need-returns
 unfolding addAnswer
 returns c = simp (sym (c .before .before .has .ensures) ∙ not-true _ (c .before .if1 .taken)) (c .refused .ensures)
 
-check-requires : tie.Need-check-requires
-check-requires c κs = search needs
+check-bounds-requires : tie.Need-check-bounds-requires
+check-bounds-requires c κs = search needs
 
 enum-told : tie.Need-enum-told
 enum-told c = search needs
@@ -109,29 +125,34 @@ refused-requires-2 : tie.Need-refused-requires-2
 refused-requires-2 c κs = search needs
 
 returns-2 : tie.Need-returns-2
-unfolding addAnswer
+unfolding addAnswer fits
 returns-2 c =
     let check = c .before .before .before in
-    let one = one-of (check .before) in
-    simp (one, check-unfit _ _ _ (server-valid _ _ one .0) (sym (check .check .ensures) ∙ c .before .enum-told2 .given .1)) (c .refused2 .ensures)
+    let e = check .before in
+    simp (one-of e, bounds-refused _ _ _ (valid e) (sym (check .check-bounds .ensures) ∙ c .before .enum-told2 .given .1)) (c .refused2 .ensures)
 
-lawful-requires : tie.Need-lawful-requires
-lawful-requires c κs = search needs
+check-floor-requires : tie.Need-check-floor-requires
+check-floor-requires c κs = search needs
+
+enum-told-3 : tie.Need-enum-told-3
+enum-told-3 c = search needs
+
+enum-told-4 : tie.Need-enum-told-4
+enum-told-4 c = search needs
 
 refused-requires-3 : tie.Need-refused-requires-3
 refused-requires-3 c κs = search needs
 
 returns-3 : tie.Need-returns-3
-unfolding addAnswer giveAnswer
+unfolding addAnswer fits
 returns-3 c =
-    let t = c .before .before .before in
-    simp (one-of (of-ledger t), sound t, sym (c .before .before .lawful .ensures) ∙ not-true _ (c .before .if2 .taken)) (c .refused3 .ensures)
+    let check = c .before .before .before in
+    let b = check .before in
+    let e = of-bounds b in
+    simp (one-of e, in-bounds b, floor-refused _ _ _ (valid e) (sym (check .check-floor .ensures) ∙ c .before .enum-told4 .given .1)) (c .refused3 .ensures)
 
-mul-count : tie.Need-mul-count
-mul-count c = omega (arith, placed c)
-
-element-copy-out-count : tie.Need-element-copy-out-count
-element-copy-out-count c = placed c .0
+lawful-requires : tie.Need-lawful-requires
+lawful-requires c κs = search needs
 
 refused-requires-4 : tie.Need-refused-requires-4
 refused-requires-4 c κs = search needs
@@ -139,18 +160,14 @@ refused-requires-4 c κs = search needs
 returns-4 : tie.Need-returns-4
 unfolding addAnswer giveAnswer
 returns-4 c =
-    let e = c .before .before .before in
-    let full : mostCount ≤ countOf (start e .args .t1) (start e .args .giver) = omega (arith, c .before .if3 .taken) in
-    simp (one-of (of-ledger (of-taker e)), sound (of-taker e), legal e, le-ltb _ _ full) (c .refused4 .ensures)
+    let t = c .before .before .before in
+    simp (one-of (of-ledger t), sound t, sym (c .before .before .lawful .ensures) ∙ not-true _ (c .before .if2 .taken)) (c .refused4 .ensures)
 
-spares-requires : tie.Need-spares-requires
-spares-requires c κs =
-    let e = of-count (c .before .before .before) in
-    let a = start e .args in (
-      ledger-typed (a .t1) _ (start e .good .0) .cells-length,
-      one-of (of-ledger (of-taker e)),
-      above-cells (a .config) (a .t1) ∙ fits-told _ _ (sound (of-taker e)) .1,
-    )
+mul-count : tie.Need-mul-count
+mul-count c = omega (arith, placed c)
+
+element-copy-out-count : tie.Need-element-copy-out-count
+element-copy-out-count c = placed c .0
 
 refused-requires-5 : tie.Need-refused-requires-5
 refused-requires-5 c κs = search needs
@@ -158,11 +175,30 @@ refused-requires-5 c κs = search needs
 returns-5 : tie.Need-returns-5
 unfolding addAnswer giveAnswer
 returns-5 c =
+    let e = c .before .before .before in
+    let full : mostCount ≤ countOf (start e .args .t1) (start e .args .giver) = omega (arith, c .before .if3 .taken) in
+    simp (one-of (of-ledger (of-taker e)), sound (of-taker e), legal e, le-ltb _ _ full) (c .refused5 .ensures)
+
+spares-requires : tie.Need-spares-requires
+spares-requires c κs =
+    let e = of-count (c .before .before .before) in
+    let a = start e .args in (
+      ledger-typed (a .t1) _ (start e .good .0) .cells-length,
+      one-of (of-ledger (of-taker e)),
+      above-cells (a .config) (a .t1) ∙ not-light (of-taker e),
+    )
+
+refused-requires-6 : tie.Need-refused-requires-6
+refused-requires-6 c κs = search needs
+
+returns-6 : tie.Need-returns-6
+unfolding addAnswer giveAnswer
+returns-6 c =
     let k = of-spares (c .before .before) in
     let e = of-count k in
     let a = start e .args in
     simp (one-of (of-ledger (of-taker e)), sound (of-taker e), legal e, lt-ltb _ _ (counted k), sym (spares-cells (a .config) (a .t1) (a .giver) (a .amount)) ∙ sym (c .before .before .spares .ensures) ∙ not-true _ (c .before .if4 .taken))
-    (c .refused5 .ensures)
+    (c .refused6 .ensures)
 
 mul-at : tie.Need-mul-at
 mul-at c = omega (arith, placed (of-count (of-gift c)))
@@ -197,9 +233,9 @@ mul-next-2 c = omega (arith, placed (of-count (of-gift (c .before))))
 element-write-next-2 : tie.Need-element-write-next-2
 element-write-next-2 c = omega (arith, placed (of-count (of-gift (c .before))))
 
-returns-6 : tie.Need-returns-6
+returns-7 : tie.Need-returns-7
 unfolding addAnswer giveAnswer added
-returns-6 c =
+returns-7 c =
     let k = of-gift (c .before) in
     let e = of-count k in
     simp (one-of (of-ledger (of-taker e)), sound (of-taker e), legal e, lt-ltb _ _ (counted k), spared (c .before))
@@ -211,21 +247,26 @@ add-spec =
     has-requires
     refused-requires
     returns
-    check-requires
+    check-bounds-requires
     enum-told
     enum-told-2
     refused-requires-2
     returns-2
-    lawful-requires
+    check-floor-requires
+    enum-told-3
+    enum-told-4
     refused-requires-3
     returns-3
-    mul-count
-    element-copy-out-count
+    lawful-requires
     refused-requires-4
     returns-4
-    spares-requires
+    mul-count
+    element-copy-out-count
     refused-requires-5
     returns-5
+    spares-requires
+    refused-requires-6
+    returns-6
     mul-at
     add-at
     mul-cell
@@ -237,4 +278,4 @@ add-spec =
     add-next-2
     mul-next-2
     element-write-next-2
-    returns-6)
+    returns-7)
