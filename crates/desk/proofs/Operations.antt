@@ -85,23 +85,34 @@ running-later mode round e m =
 
 -- ---- kinds
 
-within-most : (low high x : ℕ) → within low high x ≡ true → leb x high ≡ true
-unfolding within
-within-most low high x e = both (leb low x) _ e .1
-
 -- the kind of an operation that runs is one
 pub kind-told : (mode kind : ℕ) → kindLawful mode kind ≡ true → mode ≡ running → within reading writing kind ≡ true
-unfolding kindLawful
-kind-told mode kind e m = rw (ne-eqb mode none (λ z. omega arith)) at e
+unfolding kindLawful within
+kind-told mode kind e m =
+    let k = both (leb kind writing) _ e in
+    let least : leb reading kind ≡ true = rw (ne-eqb mode none (λ z. omega arith)) at (k .1) in
+    rw least (k .0)
 
 -- and one that is one is lawful with every mode
 pub kind-fits : (mode kind : ℕ) → within reading writing kind ≡ true → kindLawful mode kind ≡ true
-unfolding kindLawful
-kind-fits mode kind w = by-test (eqb mode none)
+unfolding kindLawful within
+kind-fits mode kind w =
+    let k = both (leb reading kind) _ w in
+    rw (k .1, k .0) (by-test (eqb mode none))
   where
-    by-test : (b : Bool) → cond b (leb kind writing) (within reading writing kind) ≡ true
-    by-test true = within-most reading writing kind w
-    by-test false = w
+    by-test : (b : Bool) → cond b true true ≡ true
+    by-test true = refl
+    by-test false = refl
+
+-- in every mode, kind and phase are at most 2
+
+pub kind-most : (mode kind : ℕ) → kindLawful mode kind ≡ true → kind ≤ writing
+unfolding kindLawful
+kind-most mode kind e = leb-true kind writing (both (leb kind writing) _ e .0)
+
+pub phase-most : (mode phase : ℕ) → phaseLawful mode phase ≡ true → phase ≤ 2
+unfolding phaseLawful
+phase-most mode phase e = leb-true phase 2 (both (leb phase 2) _ e .0)
 
 -- ---- answered servers
 

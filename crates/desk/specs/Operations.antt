@@ -5,7 +5,6 @@ use mathlib.Core.Bool.{Bool, true, false, cond}
 use lib.Dec.{eqb, leb}
 use Rattle.config.specs.declared.cluster.Config.{Config}
 use Rattle.ledger.specs.Maps.{mapOf}
-use Rattle.message.specs.Cursors.{within}
 use Rattle.replica.specs.declared.value.Value.{Value}
 use Rattle.replica.specs.Values.{emptyValue, valueFits, Typed as TypedValue}
 use Rattle.replica.specs.Registers.{startRegister, registerFits, Typed as TypedRegister}
@@ -42,13 +41,13 @@ begunOperation kind value note =
 unfoldable pub modeLawful : ℕ → ℕ → Bool
 modeLawful mode round = cond (eqb round 0) (eqb mode none) (leb mode ended)
 
--- a kind is read or write where there is an operation, and nothing above in any mode
+-- a kind is at most 2 in every mode, and read or write where there is an operation
 unfoldable pub kindLawful : ℕ → ℕ → Bool
-kindLawful mode kind = cond (eqb mode none) (leb kind writing) (within reading writing kind)
+kindLawful mode kind = cond (leb kind writing) (cond (eqb mode none) true (leb reading kind)) false
 
--- a phase is 1 or 2 where one runs, and nothing above in any mode
+-- a phase is at most 2 in every mode, and 1 or 2 where one runs
 unfoldable pub phaseLawful : ℕ → ℕ → Bool
-phaseLawful mode phase = cond (eqb mode running) (within 1 2 phase) (leb phase 2)
+phaseLawful mode phase = cond (leb phase 2) (cond (eqb mode running) (leb 1 phase) true) false
 
 -- The record test of the operation: mode, kind and phase; answered bits below n; restarts at most the round; the value to be written and the chosen
 -- register in their ranges.

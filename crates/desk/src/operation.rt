@@ -1,9 +1,11 @@
 // The operation of a desk. Kind, phase and mode are numbers: a record may hold any, and the record test says which ones mean something.
 use config::Config;
-use ledger::within;
 use replica::Register;
 use replica::Value;
 ghost use mathlib.Core.Path.{_≡_};
+ghost use mathlib.Core.Bool.{true};
+ghost use Rattle.config.specs.Cluster.{validOf};
+ghost use Rattle.ledger.specs.Maps.{mapOf};
 ghost use Rattle.desk.specs.Operations.{noOperation, begunOperation, modeLawful, kindLawful, phaseLawful, fits as fitsOf};
 ghost use Rattle.desk.specs.Hears.{answeredBy, inPhaseTwo, finishedOperation};
 
@@ -117,8 +119,9 @@ impl Operation {
         }
     }
 
-    // The part of the record test that is about the operation of a desk in a round.
+    // The part of the record test that is about the operation of a desk in a round. The cluster has passed.
     pub(crate) fn fits(self, config: Config, round: u32) -> bool
+        requires { ⌜ validOf config ≡ true ⌝ }
         ensures { λ r. ⌜ r ≡ fitsOf config round self ⌝ }
     {
         if !mode_lawful(self.mode, round) {
@@ -130,7 +133,7 @@ impl Operation {
         if !phase_lawful(self.mode, self.phase) {
             return false;
         }
-        if !within(config, self.answered) {
+        if !map_lawful(config, self.answered) {
             return false;
         }
         if round < self.restarts {
@@ -155,28 +158,37 @@ fn mode_lawful(mode: u32, round: u32) -> bool
     mode <= ENDED
 }
 
-// Whether a kind is one where there is an operation, and not above them in any mode.
+// Whether a kind is at most 2, and one where there is an operation.
 fn kind_lawful(mode: u32, kind: u16) -> bool
     ensures { λ r. ⌜ r ≡ kindLawful mode kind ⌝ }
 {
-    if mode == NONE {
-        return kind <= WRITE;
-    }
-    if kind < READ {
+    if WRITE < kind {
         return false;
     }
-    kind <= WRITE
+    if mode == NONE {
+        return true;
+    }
+    READ <= kind
 }
 
-// Whether a phase is 1 or 2 where an operation runs, and not above them in any mode.
+// Whether a phase is at most 2, and 1 or 2 where an operation runs.
 fn phase_lawful(mode: u32, phase: u16) -> bool
     ensures { λ r. ⌜ r ≡ phaseLawful mode phase ⌝ }
 {
-    if mode != RUNNING {
-        return phase <= 2;
-    }
-    if phase < 1 {
+    if 2 < phase {
         return false;
     }
-    phase <= 2
+    if mode != RUNNING {
+        return true;
+    }
+    1 <= phase
+}
+
+// Whether a map names servers of a valid cluster only.
+fn map_lawful(config: Config, map: u16) -> bool
+    requires { ⌜ validOf config ≡ true ⌝ }
+    ensures { λ r. ⌜ r ≡ mapOf config map ⌝ }
+{
+    let n = config.n as u32;
+    (map as u32) >> n == 0
 }

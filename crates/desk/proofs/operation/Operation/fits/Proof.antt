@@ -38,7 +38,7 @@ phase-in : (c : tie.Else3) → phaseLawful (of-phase c .args .self .mode) (of-ph
 phase-in c = sym (c .before .phase-lawful .ensures) ∙ not-false _ (c .if3 .left)
 
 answered-in : (c : tie.Else4) → mapOf (of-answered c .args .config) (of-answered c .args .self .answered) ≡ true
-answered-in c = sym (c .before .within .ensures) ∙ not-false _ (c .if4 .left)
+answered-in c = sym (c .before .map-lawful .ensures) ∙ not-false _ (c .if4 .left)
 
 -- what is left to test after the map of the servers that answered
 abbrev rest : Config → ℕ → Operation → Bool
@@ -75,15 +75,15 @@ returns-3 c =
     let kind = c .before .before in
     simp (mode-in (kind .before .before), kind-in kind, sym (c .before .phase-lawful .ensures) ∙ not-true _ (c .if3 .taken))
 
-within-requires : tie.Need-within-requires
-within-requires c κs = search needs
+map-lawful-requires : tie.Need-map-lawful-requires
+map-lawful-requires c κs = of-phase c .pre
 
 returns-4 : tie.Need-returns-4
 unfolding fits
 returns-4 c =
     let phase = c .before .before in
     let kind = phase .before .before in
-    simp (mode-in (kind .before .before), kind-in kind, phase-in phase, sym (c .before .within .ensures) ∙ not-true _ (c .if4 .taken))
+    simp (mode-in (kind .before .before), kind-in kind, phase-in phase, sym (c .before .map-lawful .ensures) ∙ not-true _ (c .if4 .taken))
 
 returns-5 : tie.Need-returns-5
 returns-5 c = rw (← left (c .before .before), lt-leb _ _ (c .if5 .taken))
@@ -115,7 +115,7 @@ fits-spec =
     returns-2
     phase-lawful-requires
     returns-3
-    within-requires
+    map-lawful-requires
     returns-4
     returns-5
     fits-requires

@@ -3,6 +3,8 @@ use mathlib.Core.Path.{_≡_, sym, _∙_}
 use mathlib.Core.Bool.{true}
 use borrow.Author.Needs.{needs}
 use borrow.Author.Tests.{not-true, not-false}
+use Rattle.replica.specs.Replicas.{fits as fitsReplica}
+use Rattle.replica.proofs.Replicas.{fits-told as holds-told}
 use Rattle.desk.specs.Desks.{numberLawful, fits}
 use Rattle.desk.proofs.record.Desk.fits.Statement.{statement}
 use Rattle.desk.proofs.record.Desk.fits.Tie as tie
@@ -25,15 +27,20 @@ returns-2 : tie.Need-returns-2
 unfolding fits
 returns-2 c = simp (number-in (c .before .before .before .before), sym (c .before .fits2 .ensures) ∙ not-true _ (c .if2 .taken))
 
+-- and what is held is lawful, as is the cluster
+replica-in : (c : tie.Else2) →
+    let x = c .before .before .before .before .before .before .args .self in
+    fitsReplica (x .config) (x .replica) ≡ true
+replica-in c = sym (c .before .fits2 .ensures) ∙ not-false _ (c .if2 .left)
+
 fits-requires-2 : tie.Need-fits-requires-2
-fits-requires-2 c κs = search needs
+fits-requires-2 c κs = holds-told _ _ (replica-in (c .before)) .valid
 
 returns-3 : tie.Need-returns-3
 unfolding fits
 returns-3 c =
     let replica = c .before .before in
-    let replica-fits = sym (replica .before .fits2 .ensures) ∙ not-false _ (replica .if2 .left) in
-    simp (number-in (replica .before .before .before .before), replica-fits) (c .fits3 .ensures)
+    simp (number-in (replica .before .before .before .before), replica-in replica) (c .fits3 .ensures)
 
 pub fits-spec : {M : Type 1} → statement M
 fits-spec =
