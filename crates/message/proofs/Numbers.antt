@@ -2,7 +2,6 @@
 use Prim.Native.Nat.{ℕ, zero, suc, _+_, _<_, _≤_}
 use native.Mathlib.Omega.{arith}
 use mathlib.Core.Path.{_≡_, refl, sym, ap}
-use mathlib.Core.Logic.{⊎-elim}
 use mathlib.Core.Bool.{Bool, true, false, cond}
 use mathlib.Core.List.{List}
 use borrow.Author.Tests.{eq-eqb, ne-eqb, eqb-true}
@@ -10,11 +9,10 @@ use lib.Dec.{eqb, leb}
 use lib.ListN.{length}
 use Rattle.quorums.proofs.Tests.{chosen-first, chosen-second}
 use Rattle.config.specs.Cluster.{validOf}
-use Rattle.config.specs.Refusals.{numberOf, mostRefusal, refusal, meaning}
-use Rattle.config.proofs.Refusals.{number-back, meaning-told, meaning-none}
+use Rattle.config.specs.Refusals.{numberOf, refusal}
+use Rattle.config.proofs.Refusals.{number-back}
 use Rattle.config.specs.declared.cluster.Config.{Config}
 use Rattle.config.specs.declared.answer.Refusal.{Refusal}
-use Rattle.config.specs.declared.answer.Meaning.{Meaning}
 use Rattle.config.specs.declared.answer.Verdict.{Verdict}
 use Rattle.ledger.proofs.Checks.{accepted-not-refused}
 use Rattle.message.specs.declared.state.Cursor.{Cursor}
@@ -79,7 +77,7 @@ sheet-most : (c : Config) (msg : List ℕ) (s : ℕ) (from : Cursor) → from .n
 unfolding sheetOf
 sheet-most c msg s from h = rows-most c msg _ _ (number-most msg _ _ _ _ _ h) 16
 
-scan-most : (c : Config) (msg : List ℕ) → scanOf c msg .number ≤ 5
+pub scan-most : (c : Config) (msg : List ℕ) → scanOf c msg .number ≤ 5
 unfolding scanOf endOf readNote
 scan-most c msg =
     require-most _ 5 _ (omega arith)
@@ -127,15 +125,11 @@ received-verdict c msg = by-test (eqb (check c msg) 0)
     by-test true = refl
     by-test false = refl
 
--- ---- what the number stands for
-
--- where it stands for a refusal, an answer that is made of the refusal of the number is made of this one
-pub refusal-meant : {A : Type 0} (c : Config) (msg : List ℕ) (r : Refusal) (x : A) (f : Refusal → A) → meaning (check c msg) ≡ Meaning.Refusal r
-    → f r ≡ cond (eqb (check c msg) 0) x (f (refusal (check c msg)))
-refusal-meant c msg r x f e =
-    let t = meaning-told (check c msg) r e in rw (ne-eqb (check c msg) 0 (λ z. omega (arith, t .2))) (ap f (t .0))
-
--- where it stands for none, there is no fault, because the check gives no number above the largest
-pub none-meant : (c : Config) (msg : List ℕ) → meaning (check c msg) ≡ Meaning.None → check c msg ≡ 0
-none-meant c msg e =
-    ⊎-elim (λ (z : check c msg ≡ 0). z) (λ (h : mostRefusal < check c msg). absurd (omega (arith, check-most c msg))) (meaning-none (check c msg) .0 e)
+-- where it is a refusal, an answer that is made of the refusal of the number is made of this one
+pub verdict-refused : {A : Type 0} (k : ℕ) (r : Refusal) (x : A) (f : Refusal → A) → verdictOf k ≡ Verdict.Refused r → f r ≡ cond (eqb k 0) x (f (refusal k))
+unfolding verdictOf
+verdict-refused k r x f e =
+    let some = refused-check k r e in
+    let same : Verdict.Refused (refusal k) ≡ Verdict.Refused r = rw some at e in
+    let is : r ≡ refusal k = cc in
+    rw some (ap f is)

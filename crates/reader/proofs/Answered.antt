@@ -1,4 +1,4 @@
--- What is answered, from what the number of the check stands for and from the sums of the sheet.
+-- What is answered, from the number of the check and from the sums of the sheet.
 use Prim.Native.Nat.{ℕ, _+_, _≤_}
 use mathlib.Core.Path.{_≡_, sym, ap, ap₂, _∙_}
 use mathlib.Core.Bool.{true, false}
@@ -7,10 +7,8 @@ use lib.ListN.{length}
 use borrow.Author.Tests.{eq-eqb, le-ltb}
 use Rattle.quorums.specs.Accounts.{weight, quorum}
 use Rattle.config.specs.Cluster.{validOf, serverOf}
-use Rattle.config.specs.Refusals.{refusal, meaning}
-use Rattle.config.specs.declared.answer.Refusal.{Refusal}
-use Rattle.config.specs.declared.answer.Meaning.{Meaning}
-use Rattle.config.proofs.Refusals.{meaning-number}
+use Rattle.config.specs.Refusals.{refusal}
+use Rattle.config.specs.declared.answer.Verdict.{Verdict}
 use Rattle.config.specs.Answers.{decide}
 use Rattle.config.specs.declared.cluster.Config.{Config}
 use Rattle.config.specs.declared.answer.Signed.{Signed}
@@ -23,7 +21,7 @@ use Rattle.ledger.specs.Tables.{table}
 use Rattle.message.specs.Scans.{headOf, registerOf, scanOf}
 use Rattle.message.specs.declared.state.RegisterRead.{RegisterRead}
 use Rattle.message.specs.declared.answer.Received.{Received}
-use Rattle.message.specs.Answers.{check, valuePart, receiveOf, valueAnswer}
+use Rattle.message.specs.Answers.{check, verdictOf, checkAnswer, valuePart, receiveOf, valueAnswer}
 use Rattle.message.proofs.Parts.{value-within}
 use Rattle.message.proofs.Rounds.{check-told, received}
 use Rattle.message.proofs.SheetBacks.{ledger-typed}
@@ -41,14 +39,15 @@ pub check-found : (c : Config) (msg : List ℕ) (k : ℕ) → validOf c ≡ true
 unfolding check
 check-found c msg k v e = simp v (sym e)
 
--- and what it stands for
+-- and the verdict that goes by it
 
-pub meant-invalid : (c : Config) (msg : List ℕ) → validOf c ≡ false → Meaning.Refusal Refusal.BadHouse ≡ meaning (check c msg)
-meant-invalid c msg e = sym (ap meaning (check-invalid c msg e) ∙ meaning-number Refusal.BadHouse)
+pub verdict-invalid : (c : Config) (msg : List ℕ) → validOf c ≡ false → Verdict.Refused (refusal 1) ≡ checkAnswer c msg
+unfolding checkAnswer verdictOf
+verdict-invalid c msg e = simp (check-invalid c msg e)
 
-pub meant-found : (c : Config) (msg : List ℕ) (k : ℕ) (m : Meaning) → validOf c ≡ true → k ≡ scanOf c msg .number → m ≡ meaning k
-    → m ≡ meaning (check c msg)
-meant-found c msg k m v e is = is ∙ ap meaning (sym (check-found c msg k v e))
+pub verdict-found : (c : Config) (msg : List ℕ) (k : ℕ) (v : Verdict) → validOf c ≡ true → k ≡ scanOf c msg .number → v ≡ verdictOf k → v ≡ checkAnswer c msg
+unfolding checkAnswer
+verdict-found c msg k v valid e is = is ∙ ap verdictOf (sym (check-found c msg k valid e))
 
 -- ---- the value, from the register
 

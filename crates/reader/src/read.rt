@@ -1,5 +1,6 @@
 // The calls.
-use super::scan::fault;
+use super::scan::scan;
+use super::scan::verdict;
 use super::scan::weigh_message;
 use super::sums::is_quorum;
 use super::sums::weight_of;
@@ -7,7 +8,6 @@ use super::whole::received_in;
 use super::whole::register_in;
 use config::Config;
 use config::Decision;
-use config::Meaning;
 use config::Refusal;
 use config::Signed;
 use config::Verdict;
@@ -22,10 +22,12 @@ ghost use Rattle.reader.specs.Weighings.{weightIn, quorumIn};
 pub fn check(config: Config, msg: &[u8]) -> Verdict
     ensures { λ r. ⌜ r ≡ checkAnswer config (now (msg .entry)) ⌝ }
 {
-    match fault(config, msg) {
-        Meaning::Refusal(r) => Verdict::Refused(r),
-        Meaning::None => Verdict::Accepted,
+    if !config.valid() {
+        return Verdict::Refused(Refusal::BadHouse);
     }
+    let mut received: [u64; 16] = [0; 16];
+    let mut given: [u64; 16] = [0; 16];
+    verdict(scan(config, msg, &mut received, &mut given))
 }
 
 // What a message says: its envelope and its replica, or the refusal that `check` gives beside a blank envelope and a fresh replica. They are taken once
@@ -33,9 +35,9 @@ pub fn check(config: Config, msg: &[u8]) -> Verdict
 pub fn receive(config: Config, msg: &[u8]) -> Received
     ensures { λ r. ⌜ r ≡ receiveOf config (now (msg .entry)) ⌝ }
 {
-    match fault(config, msg) {
-        Meaning::Refusal(r) => Received::refused(r),
-        Meaning::None => received_in(config, msg),
+    match check(config, msg) {
+        Verdict::Accepted => received_in(config, msg),
+        Verdict::Refused(r) => Received::refused(r),
     }
 }
 
@@ -64,7 +66,7 @@ pub fn fields(config: Config, msg: &[u8]) -> Fields
 pub fn value(config: Config, msg: &[u8]) -> &[u8]
     ensures { λ r. ⌜ now r ≡ valueAnswer config (now (msg .entry)) ⌝ }
 {
-    let Meaning::None = fault(config, msg) else {
+    let Verdict::Accepted = check(config, msg) else {
         return &msg[..0];
     };
     let register = register_in(config, msg);
@@ -79,7 +81,7 @@ pub fn weight(config: Config, server: u64, msg: &[u8]) -> Signed
 {
     let mut received: [u64; 16] = [0; 16];
     let mut given: [u64; 16] = [0; 16];
-    if let Meaning::Refusal(r) = weigh_message(config, msg, &mut received, &mut given) {
+    if let Verdict::Refused(r) = weigh_message(config, msg, &mut received, &mut given) {
         return Signed::Refused(r);
     }
     if config.n <= server {
@@ -94,7 +96,7 @@ pub fn quorum(config: Config, map: u64, msg: &[u8]) -> Decision
 {
     let mut received: [u64; 16] = [0; 16];
     let mut given: [u64; 16] = [0; 16];
-    if let Meaning::Refusal(r) = weigh_message(config, msg, &mut received, &mut given) {
+    if let Verdict::Refused(r) = weigh_message(config, msg, &mut received, &mut given) {
         return Decision::Refused(r);
     }
     let n = config.n as u32;

@@ -10,18 +10,19 @@ use super::weigh::weigh_sheet;
 use config::Config;
 use config::Meaning;
 use config::Refusal;
+use config::Verdict;
 use message::Cursor;
 ghost use mathlib.Core.Path.{_≡_};
 ghost use mathlib.Core.Bool.{true};
+ghost use Prim.Native.Nat.{_≤_};
 ghost use lib.Dec.{eqb};
 ghost use lib.ListN.{length, replicate};
 ghost use Rattle.config.specs.Cluster.{validOf};
-ghost use Rattle.config.specs.Refusals.{meaning};
 ghost use Rattle.ledger.specs.Ledgers.{receivedOf, givenOf};
 ghost use Rattle.ledger.specs.Tables.{table};
 ghost use Rattle.message.specs.Cursors.{require as requireOf};
 ghost use Rattle.message.specs.Scans.{scanOf};
-ghost use Rattle.message.specs.Answers.{check};
+ghost use Rattle.message.specs.Answers.{check, verdictOf, checkAnswer};
 ghost use Rattle.reader.specs.Sums.{Sums, SheetSums, allAbove};
 
 // No bytes are left over, and every weight is above the floor.
@@ -64,30 +65,32 @@ pub(crate) fn scan(config: Config, msg: &[u8], received: &mut [u64], given: &mut
     end.number
 }
 
-// What the number of the message check stands for: 1 for the cluster, then the first fault.
-pub(crate) fn fault(config: Config, msg: &[u8]) -> Meaning
-    ensures { λ r. ⌜ r ≡ meaning (check config (now (msg .entry))) ⌝ }
+// The verdict on a message, by the number that a scan gives.
+pub(crate) fn verdict(number: u64) -> Verdict
+    requires { ⌜ number ≤ 5 ⌝ }
+    ensures { λ r. ⌜ r ≡ verdictOf number ⌝ }
 {
-    if !config.valid() {
-        return Meaning::Refusal(Refusal::BadHouse);
+    if number == 0 {
+        return Verdict::Accepted;
     }
-    let mut received: [u64; 16] = [0; 16];
-    let mut given: [u64; 16] = [0; 16];
-    Refusal::of(scan(config, msg, &mut received, &mut given))
+    match Refusal::of(number) {
+        Meaning::Refusal(r) => Verdict::Refused(r),
+        Meaning::None => Verdict::Accepted,
+    }
 }
 
-// The same, and where it is none, what each server of the sheet received and gave in the two lists, which were zeros.
+// The message check, and where the message passes, what each server of its sheet received and gave in the two lists, which were zeros.
 pub(crate) fn weigh_message(
     config: Config,
     msg: &[u8],
     received: &mut [u64],
     given: &mut [u64],
-) -> Meaning
+) -> Verdict
     requires { ⌜ (now received ≡ replicate 16 0) × (now given ≡ replicate 16 0) ⌝ }
-    ensures { λ r. ⌜ (r ≡ meaning (check config (now (msg .entry)))) × (check config (now (msg .entry)) ≡ 0 → SheetSums config (now (msg .entry)) (now (received .exit)) (now (given .exit))) ⌝ }
+    ensures { λ r. ⌜ (r ≡ checkAnswer config (now (msg .entry))) × (check config (now (msg .entry)) ≡ 0 → SheetSums config (now (msg .entry)) (now (received .exit)) (now (given .exit))) ⌝ }
 {
     if !config.valid() {
-        return Meaning::Refusal(Refusal::BadHouse);
+        return Verdict::Refused(Refusal::BadHouse);
     }
-    Refusal::of(scan(config, msg, received, given))
+    verdict(scan(config, msg, received, given))
 }

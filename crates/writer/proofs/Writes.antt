@@ -7,13 +7,13 @@ use lib.ListN.{length}
 use Rattle.config.specs.declared.cluster.Config.{Config}
 use Rattle.config.specs.declared.answer.Number.{Number}
 use Rattle.config.specs.declared.answer.Refusal.{Refusal}
-use Rattle.config.specs.declared.answer.Meaning.{Meaning}
-use Rattle.config.specs.Refusals.{refusal, meaning}
+use Rattle.config.specs.declared.answer.Verdict.{Verdict}
+use Rattle.config.specs.Refusals.{refusal}
 use Rattle.replica.specs.declared.replica.Replica.{Replica}
 use Rattle.message.specs.declared.envelope.Envelope.{Envelope}
 use Rattle.message.specs.Envelopes.{messageOf}
-use Rattle.message.specs.Answers.{Written, check, fits, place, writeOf}
-use Rattle.message.proofs.Numbers.{refusal-meant}
+use Rattle.message.specs.Answers.{Written, check, verdictOf, fits, place, writeOf}
+use Rattle.message.proofs.Numbers.{verdict-refused}
 use Rattle.writer.specs.Places.{onto}
 
 -- nothing is written
@@ -21,11 +21,11 @@ abbrev unwritten : List ℕ → Refusal → Written
 unwritten out k = record { answer = Number.Refused k; out = out }
 
 module _ (c : Config) (e : Envelope) (r : Replica) (out : List ℕ) (at : ℕ) where
-  pub write-refused : (k : Refusal) → meaning (check c (messageOf c e r)) ≡ Meaning.Refusal k
+  pub write-refused : (k : Refusal) → verdictOf (check c (messageOf c e r)) ≡ Verdict.Refused k
       → (Number.Refused k ≡ writeOf c e r out at .answer) × (out ≡ writeOf c e r out at .out)
   unfolding writeOf
   write-refused k found =
-      let w = refusal-meant c (messageOf c e r) k (place (messageOf c e r) out at) (unwritten out) found in
+      let w = verdict-refused (check c (messageOf c e r)) k (place (messageOf c e r) out at) (unwritten out) found in
       (ap (λ (x : Written). x .answer) w, ap (λ (x : Written). x .out) w)
 
   pub write-narrow : check c (messageOf c e r) ≡ 0 → length out < at + length (messageOf c e r)

@@ -4,9 +4,9 @@ use super::outline::mark_rows;
 use super::outline::measure;
 use super::whole::fill;
 use config::Config;
-use config::Meaning;
 use config::Number;
 use config::Refusal;
+use config::Verdict;
 use message::Envelope;
 use replica::Replica;
 ghost use mathlib.Core.Path.{_≡_};
@@ -23,7 +23,7 @@ pub fn write(
 ) -> Number
     ensures { λ r. ⌜ (r ≡ writeOf config envelope replica (now (out .entry)) at .answer) × (now (out .exit) ≡ writeOf config envelope replica (now (out .entry)) at .out) ⌝ }
 {
-    if let Meaning::Refusal(r) = fault(config, envelope, replica) {
+    if let Verdict::Refused(r) = fault(config, envelope, replica) {
         return Number::Refused(r);
     }
     let register = replica.register;

@@ -1,12 +1,11 @@
 // What the reader would say of the bytes of an envelope and a replica.
 use config::Config;
-use config::Meaning;
 use config::Refusal;
 use config::Verdict;
 use message::Envelope;
 use replica::Replica;
 ghost use mathlib.Core.Path.{_≡_};
-ghost use Rattle.config.specs.Refusals.{meaning};
+ghost use Rattle.message.specs.Answers.{verdictOf};
 ghost use Rattle.message.specs.Faults.{kindFits, faultOf};
 
 // Whether the fields that stand are those that the kind has.
@@ -28,35 +27,35 @@ pub(crate) fn kind_fits(kind: u8, desk: u16, round: u32, note: u32) -> bool
     round != 0
 }
 
-// The refusal that the reader would give, or none.
-pub(crate) fn fault(config: Config, envelope: Envelope, replica: Replica) -> Meaning
-    ensures { λ r. ⌜ r ≡ meaning (faultOf config envelope replica) ⌝ }
+// The reader's verdict.
+pub(crate) fn fault(config: Config, envelope: Envelope, replica: Replica) -> Verdict
+    ensures { λ r. ⌜ r ≡ verdictOf (faultOf config envelope replica) ⌝ }
 {
     let register = replica.register;
     let ledger = replica.ledger;
     if !config.valid() {
-        return Meaning::Refusal(Refusal::BadHouse);
+        return Verdict::Refused(Refusal::BadHouse);
     }
     if envelope.kind < 1 {
-        return Meaning::Refusal(Refusal::OddField);
+        return Verdict::Refused(Refusal::OddField);
     }
     if 3 < envelope.kind {
-        return Meaning::Refusal(Refusal::OddField);
+        return Verdict::Refused(Refusal::OddField);
     }
     if !kind_fits(envelope.kind, envelope.desk, envelope.round, envelope.note) {
-        return Meaning::Refusal(Refusal::BadMap);
+        return Verdict::Refused(Refusal::BadMap);
     }
     if config.n <= (envelope.server as u64) {
-        return Meaning::Refusal(Refusal::OddField);
+        return Verdict::Refused(Refusal::OddField);
     }
     if !register.fits(config) {
-        return Meaning::Refusal(Refusal::OddField);
+        return Verdict::Refused(Refusal::OddField);
     }
     match ledger.check_bounds(config) {
         Verdict::Accepted => match ledger.check_floor(config) {
-            Verdict::Accepted => Meaning::None,
-            Verdict::Refused(_) => Meaning::Refusal(Refusal::Light),
+            Verdict::Accepted => Verdict::Accepted,
+            Verdict::Refused(_) => Verdict::Refused(Refusal::Light),
         },
-        Verdict::Refused(_) => Meaning::Refusal(Refusal::OddField),
+        Verdict::Refused(_) => Verdict::Refused(Refusal::OddField),
     }
 }

@@ -1,28 +1,48 @@
--- `check` meets its contract: by what the number stands for.
-use mathlib.Core.Path.{sym, _∙_}
+-- `check` meets its contract: 1 for the cluster, then by the number of the scan.
+use mathlib.Core.Path.{_≡_, refl, sym, _∙_}
+use mathlib.Core.Bool.{true}
 use borrow.Author.Needs.{needs}
-use Rattle.config.specs.declared.answer.Verdict.{Verdict}
-use Rattle.message.specs.Answers.{checkAnswer, verdictOf}
-use Rattle.message.proofs.Numbers.{check-accepted}
-use Rattle.message.proofs.Numbers.{refusal-meant, none-meant}
+use borrow.Author.Tests.{not-true, not-false}
+use Rattle.config.specs.Cluster.{validOf}
+use Rattle.message.proofs.Numbers.{scan-most}
+use Rattle.reader.proofs.Answered.{verdict-invalid, verdict-found}
 use Rattle.reader.proofs.read.check.Statement.{statement}
 use Rattle.reader.proofs.read.check.Tie as tie
 
-fault-requires : tie.Need-fault-requires
-fault-requires c κs = search needs
+valid : (c : tie.Else1) → validOf (c .before .before .before .args .config) ≡ true
+valid c = sym (c .before .valid .ensures) ∙ not-false _ (c .if1 .left)
 
-enum-known-r : tie.Need-enum-known-r
-enum-known-r c = search needs
-
-enum-told : tie.Need-enum-told
-enum-told c = search needs
+valid-requires : tie.Need-valid-requires
+valid-requires c κs = search needs
 
 returns : tie.Need-returns
-unfolding checkAnswer verdictOf
-returns c = refusal-meant _ _ _ _ Verdict.Refused (sym (c .before .before .before .fault .ensures) ∙ c .before .r .given .1)
+returns c = verdict-invalid _ _ (sym (c .before .valid .ensures) ∙ not-true _ (c .if1 .taken))
+
+slice-aggregate-scan : tie.Need-slice-aggregate-scan
+slice-aggregate-scan c = search needs
+
+slice-aggregate-scan-2 : tie.Need-slice-aggregate-scan-2
+slice-aggregate-scan-2 c = search needs
+
+scan-requires : tie.Need-scan-requires
+scan-requires c κs = (valid (c .before .before), refl, refl)
+
+verdict-requires : tie.Need-verdict-requires
+verdict-requires c κs = rw (c .before .before .scan .ensures .0) (scan-most _ _)
 
 returns-2 : tie.Need-returns-2
-returns-2 c = sym (check-accepted _ _ (none-meant _ _ (sym (c .before .before .fault .ensures) ∙ c .enum-told .given .1)))
+returns-2 c =
+    let scanned = c .before .before .before in
+    verdict-found _ _ _ _ (valid (scanned .before .before .before)) (scanned .scan .ensures .0) (c .verdict .ensures)
 
 pub check-spec : {M : Type 1} → statement M
-check-spec = tie.close (tie.spec fault-requires enum-known-r enum-told returns returns-2)
+check-spec =
+    tie.close
+    (tie.spec
+    valid-requires
+    returns
+    slice-aggregate-scan
+    slice-aggregate-scan-2
+    scan-requires
+    verdict-requires
+    returns-2)

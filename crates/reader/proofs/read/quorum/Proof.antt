@@ -1,4 +1,4 @@
--- `quorum` meets its contract: what the number stands for, the map, and then the test of the sums.
+-- `quorum` meets its contract: the verdict, the map, and then the test of the sums.
 use Prim.Native.Nat.{ℕ, _/_, _^_}
 use native.Mathlib.Omega.{arith}
 use mathlib.Core.Path.{_≡_, sym, ap, _∙_}
@@ -13,10 +13,10 @@ use Rattle.config.specs.declared.answer.Decision.{Decision}
 use Rattle.config.proofs.Clusters.{valid-bounds}
 use Rattle.ledger.specs.Maps.{mapOf}
 use Rattle.ledger.proofs.Maps.{shifted-zero}
-use Rattle.message.specs.Answers.{check}
+use Rattle.message.specs.Answers.{check, checkAnswer}
 use Rattle.message.proofs.Rounds.{check-told}
 use Rattle.reader.specs.Weighings.{quorumIn}
-use Rattle.message.proofs.Numbers.{refusal-meant, none-meant}
+use Rattle.message.proofs.Numbers.{accepted-check, verdict-refused}
 use Rattle.reader.proofs.Answered.{sheet-small, quorum-answered, map-refused}
 use Rattle.reader.proofs.read.quorum.Statement.{statement}
 use Rattle.reader.proofs.read.quorum.Tie as tie
@@ -43,9 +43,10 @@ matched c = c .before .before
 abbrev mapped : tie.After-is-quorum → tie.Else1
 mapped c = c .before .before .before
 
--- where it found none, there is no fault, and the cluster is within bounds
+-- where it passed, there is no fault, and the cluster is within bounds
 passed : (c : tie.After-enum-told) → let a = start (weighed c) .args in check (a .config) (a .msg .now) ≡ 0
-passed c = none-meant _ _ (sym (weighed c .weigh-message .ensures .0) ∙ c .enum-told .given .1)
+unfolding checkAnswer
+passed c = accepted-check _ (sym (weighed c .weigh-message .ensures .0) ∙ c .enum-told .given .1)
 
 valid : (c : tie.After-enum-told) → validOf (start (weighed c) .args .config) ≡ true
 valid c = check-told _ _ (passed c) .0
@@ -63,8 +64,8 @@ enum-known-r : tie.Need-enum-known-r
 enum-known-r c = search needs
 
 returns : tie.Need-returns
-unfolding quorumIn
-returns c = refusal-meant _ _ _ _ Decision.Refused (sym (refused c .weigh-message .ensures .0) ∙ c .before .r .given .1)
+unfolding quorumIn checkAnswer
+returns c = verdict-refused _ _ _ Decision.Refused (sym (refused c .weigh-message .ensures .0) ∙ c .before .r .given .1)
 
 enum-told : tie.Need-enum-told
 enum-told c = search needs

@@ -1,18 +1,29 @@
--- `receive` meets its contract: by what the number stands for, and where it is none what a message that has passed says.
-use mathlib.Core.Path.{sym, _∙_}
+-- `receive` meets its contract: by the verdict, and where the message passed what it says.
+use mathlib.Core.Path.{_≡_, sym, _∙_}
 use borrow.Author.Needs.{needs}
-use Rattle.message.specs.Answers.{refusedOf, receiveOf}
+use Rattle.message.specs.Answers.{check, checkAnswer, refusedOf, receiveOf}
 use Rattle.message.proofs.Rounds.{check-told}
-use Rattle.message.proofs.Numbers.{refusal-meant, none-meant}
+use Rattle.message.proofs.Numbers.{accepted-check, verdict-refused}
 use Rattle.reader.proofs.read.receive.Statement.{statement}
 use Rattle.reader.proofs.read.receive.Tie as tie
 
--- the call that found a refusal
-abbrev found : tie.After-refused → tie.After-fault
-found c = c .before .before .before .before
+-- the check that refused
+abbrev checked : tie.After-refused → tie.After-check
+checked c = c .before .before .before .before
 
-fault-requires : tie.Need-fault-requires
-fault-requires c κs = search needs
+check-requires : tie.Need-check-requires
+check-requires c κs = search needs
+
+enum-told : tie.Need-enum-told
+enum-told c = search needs
+
+-- where it passed, there is no fault
+passed : (c : tie.After-enum-told) → let a = c .before .before .before .before .args in check (a .config) (a .msg .now) ≡ 0
+unfolding checkAnswer
+passed c = accepted-check _ (sym (c .before .before .check .ensures) ∙ c .enum-told .given .1)
+
+received-in-requires : tie.Need-received-in-requires
+received-in-requires c κs = check-told _ _ (passed c)
 
 enum-known-r : tie.Need-enum-known-r
 enum-known-r c = search needs
@@ -20,28 +31,21 @@ enum-known-r c = search needs
 refused-requires : tie.Need-refused-requires
 refused-requires c κs = search needs
 
-enum-told : tie.Need-enum-told
-enum-told c = search needs
-
-received-in-requires : tie.Need-received-in-requires
-received-in-requires c κs = check-told _ _ (none-meant _ _ (sym (c .before .before .fault .ensures) ∙ c .enum-told .given .1))
-
 returns : tie.Need-returns
-unfolding receiveOf
-returns c =
-    c .refused .ensures ∙ refusal-meant _ _ _ _ refusedOf (sym (found c .fault .ensures) ∙ c .before .before .r .given .1)
+returns c = search needs
 
 returns-2 : tie.Need-returns-2
-returns-2 c = search needs
+unfolding receiveOf checkAnswer
+returns-2 c = c .refused .ensures ∙ verdict-refused _ _ _ refusedOf (sym (checked c .check .ensures) ∙ c .before .before .r .given .1)
 
 pub receive-spec : {M : Type 1} → statement M
 receive-spec =
     tie.close
     (tie.spec
-    fault-requires
-    enum-known-r
-    refused-requires
+    check-requires
     enum-told
     received-in-requires
+    enum-known-r
+    refused-requires
     returns
     returns-2)

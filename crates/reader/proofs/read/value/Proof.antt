@@ -1,28 +1,29 @@
--- `value` meets its contract: by what the number stands for; where it is none the value lies within the message.
+-- `value` meets its contract: by the verdict; where the message passed the value lies within the message.
 use Prim.Native.Nat.{_+_, _-_, _≤_}
 use native.Mathlib.Omega.{arith}
 use mathlib.Core.Path.{_≡_, sym, _∙_}
 use mathlib.Core.List.{[]}
 use borrow.Author.Needs.{needs}
 use lib.ListN.{length}
-use Rattle.message.specs.Answers.{check, valueAnswer}
+use Rattle.message.specs.Answers.{check, checkAnswer, valueAnswer}
 use Rattle.message.proofs.Rounds.{check-told}
-use Rattle.message.proofs.Numbers.{refusal-meant, none-meant}
+use Rattle.message.proofs.Numbers.{accepted-check, verdict-refused}
 use Rattle.reader.proofs.Answered.{register-within, register-value}
 use Rattle.reader.proofs.read.value.Statement.{statement}
 use Rattle.reader.proofs.read.value.Tie as tie
 
--- the entry, from the call that found what the number stands for
+-- the entry, from the check
 
-abbrev start : tie.After-fault → tie.Start
+abbrev start : tie.After-check → tie.Start
 start c = c .before .before
 
--- where it is none, there is no fault
+-- where it passed, there is no fault
 passed : (c : tie.After-enum-told) → let a = start (c .before .before) .args in check (a .config) (a .msg .now) ≡ 0
-passed c = none-meant _ _ (sym (c .before .before .fault .ensures) ∙ c .enum-told .given .1)
+unfolding checkAnswer
+passed c = accepted-check _ (sym (c .before .before .check .ensures) ∙ c .enum-told .given .1)
 
-fault-requires : tie.Need-fault-requires
-fault-requires c κs = search needs
+check-requires : tie.Need-check-requires
+check-requires c κs = search needs
 
 enum-told : tie.Need-enum-told
 enum-told c = search needs
@@ -34,11 +35,11 @@ slice-aggregate-result : tie.Need-slice-aggregate-result
 slice-aggregate-result c = search needs
 
 returns : tie.Need-returns
-unfolding valueAnswer
+unfolding valueAnswer checkAnswer
 returns c =
     let call = c .before .before .before in
     let a = start call .args in
-    let none : [] ≡ valueAnswer (a .config) (a .msg .now) = refusal-meant _ _ _ _ (λ r. []) (sym (call .fault .ensures) ∙ c .before .enum-told2 .given .1) in
+    let none : [] ≡ valueAnswer (a .config) (a .msg .now) = verdict-refused _ _ _ (λ r. []) (sym (call .check .ensures) ∙ c .before .enum-told2 .given .1) in
     none
 
 register-in-requires : tie.Need-register-in-requires
@@ -70,7 +71,7 @@ pub value-spec : {M : Type 1} → statement M
 value-spec =
     tie.close
     (tie.spec
-    fault-requires
+    check-requires
     enum-told
     enum-told-2
     slice-aggregate-result

@@ -1,4 +1,4 @@
--- `weight` meets its contract: what the number stands for, the server, and then the weight from the sums.
+-- `weight` meets its contract: the verdict, the server, and then the weight from the sums.
 use mathlib.Core.Path.{_≡_, sym, ap, _∙_}
 use mathlib.Core.Bool.{true}
 use borrow.Author.Needs.{needs}
@@ -6,10 +6,10 @@ use Rattle.config.specs.Cluster.{validOf, serverOf}
 use Rattle.config.specs.declared.answer.Signed.{Signed}
 use Rattle.config.proofs.Clusters.{valid-server}
 use Rattle.ledger.proofs.Answers.{read-back}
-use Rattle.message.specs.Answers.{check}
+use Rattle.message.specs.Answers.{check, checkAnswer}
 use Rattle.message.proofs.Rounds.{check-told}
 use Rattle.reader.specs.Weighings.{weightIn}
-use Rattle.message.proofs.Numbers.{refusal-meant, none-meant}
+use Rattle.message.proofs.Numbers.{accepted-check, verdict-refused}
 use Rattle.reader.proofs.Answered.{sheet-small, weight-answered, server-refused}
 use Rattle.reader.proofs.read.weight.Statement.{statement}
 use Rattle.reader.proofs.read.weight.Tie as tie
@@ -28,9 +28,10 @@ refused c = c .before .before .before .before .before
 abbrev matched : tie.Else1 → tie.After-enum-told
 matched c = c .before .before
 
--- where it found none, there is no fault, and the cluster is within bounds
+-- where it passed, there is no fault, and the cluster is within bounds
 passed : (c : tie.After-enum-told) → let a = start (weighed c) .args in check (a .config) (a .msg .now) ≡ 0
-passed c = none-meant _ _ (sym (weighed c .weigh-message .ensures .0) ∙ c .enum-told .given .1)
+unfolding checkAnswer
+passed c = accepted-check _ (sym (weighed c .weigh-message .ensures .0) ∙ c .enum-told .given .1)
 
 valid : (c : tie.After-enum-told) → validOf (start (weighed c) .args .config) ≡ true
 valid c = check-told _ _ (passed c) .0
@@ -51,8 +52,8 @@ enum-known-r : tie.Need-enum-known-r
 enum-known-r c = search needs
 
 returns : tie.Need-returns
-unfolding weightIn
-returns c = refusal-meant _ _ _ _ Signed.Refused (sym (refused c .weigh-message .ensures .0) ∙ c .before .r .given .1)
+unfolding weightIn checkAnswer
+returns c = verdict-refused _ _ _ Signed.Refused (sym (refused c .weigh-message .ensures .0) ∙ c .before .r .given .1)
 
 enum-told : tie.Need-enum-told
 enum-told c = search needs

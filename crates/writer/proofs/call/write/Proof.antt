@@ -6,7 +6,6 @@ use mathlib.Core.List.{List}
 use borrow.Author.Needs.{needs}
 use denote.Ref.{now}
 use lib.ListN.{length}
-use Rattle.config.specs.Refusals.{meaning}
 use Rattle.ledger.specs.Ledgers.{givenOf, Typed as TypedLedger}
 use Rattle.ledger.proofs.Totals.{count-empty}
 use Rattle.format.specs.Table.{fieldMapOf}
@@ -17,8 +16,8 @@ use Rattle.replica.proofs.Registers.{fits-value}
 use Rattle.replica.proofs.Replicas.{Fits, fits-told}
 use Rattle.replica.proofs.Ranges.{replica-is-typed}
 use Rattle.message.specs.Envelopes.{fieldsOf, messageOf, Typed}
-use Rattle.message.specs.Answers.{check}
-use Rattle.message.proofs.Numbers.{none-meant}
+use Rattle.message.specs.Answers.{check, verdictOf}
+use Rattle.message.proofs.Numbers.{accepted-check}
 use Rattle.message.proofs.Ranges.{envelope-is-typed}
 use Rattle.message.proofs.Faults.{fault-is-check}
 use Rattle.message.proofs.Found.{taken-told}
@@ -75,14 +74,14 @@ envelope-typed s = envelope-is-typed (s .args .envelope) _ (s .good .1 .0)
 typed : (s : tie.Start) → TypedReplica (carried s)
 typed s = replica-is-typed (carried s) _ (s .good .1 .1 .0)
 
--- what the writer found is what the reader's number stands for
-found : (c : tie.After-fault) → meaning (number (begun c)) ≡ c .fault .result
-found c = ap meaning (fault-is-check _ _ _ (envelope-typed (begun c)) (typed (begun c))) ∙ sym (c .fault .ensures)
+-- the writer's verdict is the reader's
+found : (c : tie.After-fault) → verdictOf (number (begun c)) ≡ c .fault .result
+found c = ap verdictOf (fault-is-check _ _ _ (envelope-typed (begun c)) (typed (begun c))) ∙ sym (c .fault .ensures)
 
 -- ---- a message that the reader takes: its value is short, and its ledger is within bounds, where a row whose count is 0 is empty
 
 taken : (c : tie.After-enum-told) → number (start c) ≡ 0
-taken c = none-meant _ _ (found (c .before .before) ∙ c .enum-told .given .1)
+taken c = accepted-check _ (found (c .before .before) ∙ c .enum-told .given .1)
 
 told : (c : tie.After-enum-told) → Fits (start c .args .config) (carried (start c))
 told c = fits-told _ _ (taken-told _ _ _ (envelope-typed (start c)) (typed (start c)) .0 (taken c) .1)

@@ -4,11 +4,11 @@ use mathlib.Core.Bool.{true, cond}
 use borrow.Author.Needs.{needs}
 use borrow.Author.Tests.{not-true, not-false, lt-ltb, le-ltb, le-leb, lt-leb}
 use Rattle.config.specs.Cluster.{validOf}
-use Rattle.config.specs.Refusals.{meaning}
 use Rattle.ledger.specs.Checks.{bounded, aboveFloor}
 use Rattle.ledger.proofs.Checks.{floor-told, floor-refused, bounds-told, bounds-refused}
 use Rattle.message.specs.Cursors.{within}
 use Rattle.replica.specs.Registers.{registerFits}
+use Rattle.message.specs.Answers.{verdictOf}
 use Rattle.message.specs.Faults.{kindFits, faultOf}
 use Rattle.writer.proofs.fault.fault.Statement.{statement}
 use Rattle.writer.proofs.fault.fault.Tie as tie
@@ -69,36 +69,36 @@ valid-requires : tie.Need-valid-requires
 valid-requires c κs = search needs
 
 returns : tie.Need-returns
-unfolding meaning faultOf
+unfolding verdictOf faultOf
 returns c = simp (sym (c .before .valid .ensures) ∙ not-true _ (c .if1 .taken))
 
 returns-2 : tie.Need-returns-2
-unfolding meaning faultOf within
+unfolding verdictOf faultOf within
 returns-2 c = simp (valid (c .before .before), lt-leb 1 _ (c .if2 .taken))
 
 returns-3 : tie.Need-returns-3
-unfolding meaning faultOf within
+unfolding verdictOf faultOf within
 returns-3 c = simp (valid (unkind c), le-leb 1 _ (c .before .before .if2 .left), lt-leb _ 3 (c .if3 .taken))
 
 kind-fits-requires : tie.Need-kind-fits-requires
 kind-fits-requires c κs = search needs
 
 returns-4 : tie.Need-returns-4
-unfolding meaning faultOf
+unfolding verdictOf faultOf
 returns-4 c = let d = c .before .before in simp (valid (first d), kind d, sym (c .before .kind-fits .ensures) ∙ not-true _ (c .if4 .taken))
 
 cast-if5 : tie.Need-cast-if5
 cast-if5 c = search needs
 
 returns-5 : tie.Need-returns-5
-unfolding meaning faultOf
+unfolding verdictOf faultOf
 returns-5 c = let d = c .before .before .before in simp (valid (first (third d)), kind (third d), fields d, le-ltb _ _ (c .if5 .taken))
 
 fits-requires : tie.Need-fits-requires
 fits-requires c κs = search needs
 
 returns-6 : tie.Need-returns-6
-unfolding meaning
+unfolding verdictOf
 returns-6 c = rw (enveloped (c .before .before)) (simp (sym (c .before .fits2 .ensures) ∙ not-true _ (c .if6 .taken)))
 
 check-bounds-requires : tie.Need-check-bounds-requires
@@ -131,7 +131,7 @@ in-bounds : (c : tie.After-enum-told) →
 in-bounds c = bounds-told _ _ (valid (lawful (c .before .before .before))) (sym (c .before .before .check-bounds .ensures) ∙ c .enum-told .given .1)
 
 returns-7 : tie.Need-returns-7
-unfolding meaning
+unfolding verdictOf
 returns-7 c =
     let told = c .before .before .before in
     let t = told .before .before .before in
@@ -139,7 +139,7 @@ returns-7 c =
     rw (passed t) (simp (in-bounds told, above))
 
 returns-8 : tie.Need-returns-8
-unfolding meaning
+unfolding verdictOf
 returns-8 c =
     let told = c .before .before .before in
     let t = told .before .before .before in
@@ -147,7 +147,7 @@ returns-8 c =
     rw (passed t) (simp (in-bounds told, light))
 
 returns-9 : tie.Need-returns-9
-unfolding meaning
+unfolding verdictOf
 returns-9 c =
     let t = c .before .before .before in
     let out = bounds-refused _ _ _ (valid (lawful t)) (sym (c .before .before .check-bounds .ensures) ∙ c .enum-told4 .given .1) in
