@@ -1,13 +1,15 @@
 -- What is answered, from the number of the check and from the sums of the sheet.
 use Prim.Native.Nat.{ℕ, _+_, _≤_}
+use native.Mathlib.Omega.{arith}
 use mathlib.Core.Path.{_≡_, sym, ap, ap₂, _∙_}
 use mathlib.Core.Bool.{true, false}
 use mathlib.Core.List.{List}
 use lib.ListN.{length}
-use borrow.Author.Tests.{eq-eqb, le-ltb}
+use borrow.Author.Tests.{eq-eqb, ne-eqb, le-ltb}
 use Rattle.quorums.specs.Accounts.{weight, quorum}
 use Rattle.config.specs.Cluster.{validOf, serverOf}
-use Rattle.config.specs.Refusals.{refusal}
+use Rattle.config.specs.Refusals.{mostRefusal, refusal}
+use Rattle.config.specs.declared.answer.Refusal.{Refusal}
 use Rattle.config.specs.declared.answer.Verdict.{Verdict}
 use Rattle.config.specs.Answers.{decide}
 use Rattle.config.specs.declared.cluster.Config.{Config}
@@ -22,6 +24,7 @@ use Rattle.message.specs.Scans.{headOf, registerOf, scanOf}
 use Rattle.message.specs.declared.state.RegisterRead.{RegisterRead}
 use Rattle.message.specs.declared.answer.Received.{Received}
 use Rattle.message.specs.Answers.{check, verdictOf, checkAnswer, valuePart, receiveOf, valueAnswer}
+use Rattle.message.proofs.Numbers.{scan-most}
 use Rattle.message.proofs.Parts.{value-within}
 use Rattle.message.proofs.Rounds.{check-told, received}
 use Rattle.message.proofs.SheetBacks.{ledger-typed}
@@ -45,9 +48,18 @@ pub verdict-invalid : (c : Config) (msg : List ℕ) → validOf c ≡ false → 
 unfolding checkAnswer verdictOf
 verdict-invalid c msg e = simp (check-invalid c msg e)
 
-pub verdict-found : (c : Config) (msg : List ℕ) (k : ℕ) (v : Verdict) → validOf c ≡ true → k ≡ scanOf c msg .number → v ≡ verdictOf k → v ≡ checkAnswer c msg
-unfolding checkAnswer
-verdict-found c msg k v valid e is = is ∙ ap verdictOf (sym (check-found c msg k valid e))
+module _ (c : Config) (msg : List ℕ) (k : ℕ) (valid : validOf c ≡ true) (found : k ≡ scanOf c msg .number) where
+  pub verdict-passed : k ≡ 0 → Verdict.Accepted ≡ checkAnswer c msg
+  unfolding checkAnswer verdictOf
+  verdict-passed e = simp (check-found c msg k valid found, eq-eqb k 0 e)
+
+  pub verdict-found : (r : Refusal) → (k ≡ 0 → ⊥) → r ≡ refusal k → Verdict.Refused r ≡ checkAnswer c msg
+  unfolding checkAnswer verdictOf
+  verdict-found r ne is = simp (check-found c msg k valid found, ne-eqb k 0 ne) (ap Verdict.Refused is)
+
+-- a number that a scan found is a refusal's
+pub found-refusal : (c : Config) (msg : List ℕ) (k : ℕ) → k ≡ scanOf c msg .number → (k ≡ 0 → ⊥) → (1 ≤ k) × (k ≤ mostRefusal)
+found-refusal c msg k found ne = omega (arith, ne, found, scan-most c msg)
 
 -- ---- the value, from the register
 

@@ -1,6 +1,6 @@
 // The calls.
+use super::scan::refusal;
 use super::scan::scan;
-use super::scan::verdict;
 use super::scan::weigh_message;
 use super::sums::is_quorum;
 use super::sums::weight_of;
@@ -27,7 +27,11 @@ pub fn check(config: Config, msg: &[u8]) -> Verdict
     }
     let mut received: [u64; 16] = [0; 16];
     let mut given: [u64; 16] = [0; 16];
-    verdict(scan(config, msg, &mut received, &mut given))
+    let number = scan(config, msg, &mut received, &mut given);
+    if number != 0 {
+        return Verdict::Refused(refusal(number));
+    }
+    Verdict::Accepted
 }
 
 // What a message says: its envelope and its replica, or the refusal that `check` gives beside a blank envelope and a fresh replica. They are taken once

@@ -18,11 +18,12 @@ ghost use Prim.Native.Nat.{_≤_};
 ghost use lib.Dec.{eqb};
 ghost use lib.ListN.{length, replicate};
 ghost use Rattle.config.specs.Cluster.{validOf};
+ghost use Rattle.config.specs.Refusals.{mostRefusal, refusal as refusalOf};
 ghost use Rattle.ledger.specs.Ledgers.{receivedOf, givenOf};
 ghost use Rattle.ledger.specs.Tables.{table};
 ghost use Rattle.message.specs.Cursors.{require as requireOf};
 ghost use Rattle.message.specs.Scans.{scanOf};
-ghost use Rattle.message.specs.Answers.{check, verdictOf, checkAnswer};
+ghost use Rattle.message.specs.Answers.{check, checkAnswer};
 ghost use Rattle.reader.specs.Sums.{Sums, SheetSums, allAbove};
 
 // No bytes are left over, and every weight is above the floor.
@@ -65,17 +66,14 @@ pub(crate) fn scan(config: Config, msg: &[u8], received: &mut [u64], given: &mut
     end.number
 }
 
-// The verdict on a message, by the number that a scan gives.
-pub(crate) fn verdict(number: u64) -> Verdict
-    requires { ⌜ number ≤ 5 ⌝ }
-    ensures { λ r. ⌜ r ≡ verdictOf number ⌝ }
+// The refusal of a number that has one.
+pub(crate) fn refusal(number: u64) -> Refusal
+    requires { ⌜ (1 ≤ number) × (number ≤ mostRefusal) ⌝ }
+    ensures { λ r. ⌜ r ≡ refusalOf number ⌝ }
 {
-    if number == 0 {
-        return Verdict::Accepted;
-    }
     match Refusal::of(number) {
-        Meaning::Refusal(r) => Verdict::Refused(r),
-        Meaning::None => Verdict::Accepted,
+        Meaning::Refusal(r) => r,
+        Meaning::None => Refusal::BadHouse,
     }
 }
 
@@ -92,5 +90,9 @@ pub(crate) fn weigh_message(
     if !config.valid() {
         return Verdict::Refused(Refusal::BadHouse);
     }
-    verdict(scan(config, msg, received, given))
+    let number = scan(config, msg, received, given);
+    if number != 0 {
+        return Verdict::Refused(refusal(number));
+    }
+    Verdict::Accepted
 }

@@ -1,13 +1,23 @@
--- `check` meets its contract: 1 for the cluster, then by the number of the scan.
+-- `check` meets its contract: 1 for the cluster, then the number of the scan.
 use mathlib.Core.Path.{_≡_, refl, sym, _∙_}
 use mathlib.Core.Bool.{true}
 use borrow.Author.Needs.{needs}
 use borrow.Author.Tests.{not-true, not-false}
 use Rattle.config.specs.Cluster.{validOf}
-use Rattle.message.proofs.Numbers.{scan-most}
-use Rattle.reader.proofs.Answered.{verdict-invalid, verdict-found}
+use Rattle.reader.proofs.Answered.{verdict-invalid, verdict-passed, verdict-found, found-refusal}
 use Rattle.reader.proofs.read.check.Statement.{statement}
 use Rattle.reader.proofs.read.check.Tie as tie
+
+-- each step from the one after it: the test of the cluster, the scan
+
+abbrev tested : tie.After-scan → tie.Else1
+tested c = c .before .before .before
+
+abbrev refused : tie.Then2 → tie.After-scan
+refused c = c .before .before .before
+
+abbrev passed : tie.Else2 → tie.After-scan
+passed c = c .before .before .before
 
 valid : (c : tie.Else1) → validOf (c .before .before .before .args .config) ≡ true
 valid c = sym (c .before .valid .ensures) ∙ not-false _ (c .if1 .left)
@@ -27,13 +37,16 @@ slice-aggregate-scan-2 c = search needs
 scan-requires : tie.Need-scan-requires
 scan-requires c κs = (valid (c .before .before), refl, refl)
 
-verdict-requires : tie.Need-verdict-requires
-verdict-requires c κs = rw (c .before .before .scan .ensures .0) (scan-most _ _)
+refusal-requires : tie.Need-refusal-requires
+refusal-requires c κs = found-refusal _ _ _ (refused c .scan .ensures .0) (c .if2 .taken)
 
 returns-2 : tie.Need-returns-2
 returns-2 c =
-    let scanned = c .before .before .before in
-    verdict-found _ _ _ _ (valid (scanned .before .before .before)) (scanned .scan .ensures .0) (c .verdict .ensures)
+    let scanned = refused (c .before) in
+    verdict-found _ _ _ (valid (tested scanned)) (scanned .scan .ensures .0) _ (c .before .if2 .taken) (c .refusal .ensures)
+
+returns-3 : tie.Need-returns-3
+returns-3 c = verdict-passed _ _ _ (valid (tested (passed c))) (passed c .scan .ensures .0) (c .if2 .left)
 
 pub check-spec : {M : Type 1} → statement M
 check-spec =
@@ -44,5 +57,6 @@ check-spec =
     slice-aggregate-scan
     slice-aggregate-scan-2
     scan-requires
-    verdict-requires
-    returns-2)
+    refusal-requires
+    returns-2
+    returns-3)

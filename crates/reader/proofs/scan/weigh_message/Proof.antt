@@ -5,8 +5,7 @@ use mathlib.Core.Bool.{true, false}
 use borrow.Author.Needs.{needs}
 use borrow.Author.Tests.{not-true, not-false}
 use Rattle.config.specs.Cluster.{validOf}
-use Rattle.message.proofs.Numbers.{scan-most}
-use Rattle.reader.proofs.Answered.{check-invalid, verdict-invalid, verdict-found, sums-found}
+use Rattle.reader.proofs.Answered.{check-invalid, verdict-invalid, verdict-passed, verdict-found, found-refusal, sums-found}
 use Rattle.reader.proofs.scan.weigh_message.Statement.{statement}
 use Rattle.reader.proofs.scan.weigh_message.Tie as tie
 
@@ -18,8 +17,11 @@ start c = c .before .before .before .before
 abbrev tested : tie.After-scan → tie.Else1
 tested c = c .before .before .before
 
-abbrev scanned : tie.After-verdict → tie.After-scan
-scanned c = c .before .before .before .before .before
+abbrev refused : tie.Then2 → tie.After-scan
+refused c = c .before .before .before .before .before
+
+abbrev passed : tie.Else2 → tie.After-scan
+passed c = c .before .before .before .before .before
 
 valid : (c : tie.Else1) → validOf (start (c .before) .args .config) ≡ true
 valid c = sym (c .before .valid .ensures) ∙ not-false _ (c .if1 .left)
@@ -36,8 +38,8 @@ returns c =
 scan-requires : tie.Need-scan-requires
 scan-requires c κs = let c0 = start (c .before .before .before) in (valid (c .before .before), c0 .pre .0, c0 .pre .1)
 
-verdict-requires : tie.Need-verdict-requires
-verdict-requires c κs = rw (c .before .before .before .before .scan .ensures .0) (scan-most _ _)
+refusal-requires : tie.Need-refusal-requires
+refusal-requires c κs = found-refusal _ _ _ (refused c .scan .ensures .0) (c .if2 .taken)
 
 same-length : tie.Need-same-length
 same-length c = search needs
@@ -47,10 +49,33 @@ same-length-2 c = search needs
 
 returns-2 : tie.Need-returns-2
 returns-2 c =
-    let scan = scanned c .scan in
-    (verdict-found _ _ _ _ (valid (tested (scanned c))) (scan .ensures .0) (c .verdict .ensures), λ e. sums-found _ _ e (scan .ensures .1) (scan .ensures .2))
+    let scanned = refused (c .before) in
+    let scan = scanned .scan .ensures in
+    (verdict-found _ _ _ (valid (tested scanned)) (scan .0) _ (c .before .if2 .taken) (c .refusal .ensures), λ e. sums-found _ _ e (scan .1) (scan .2))
+
+same-length-3 : tie.Need-same-length-3
+same-length-3 c = search needs
+
+same-length-4 : tie.Need-same-length-4
+same-length-4 c = search needs
+
+returns-3 : tie.Need-returns-3
+returns-3 c =
+    let scanned = passed c in
+    let scan = scanned .scan .ensures in
+    (verdict-passed _ _ _ (valid (tested scanned)) (scan .0) (c .if2 .left), λ e. sums-found _ _ e (scan .1) (scan .2))
 
 pub weigh-message-spec : {M : Type 1} → statement M
 weigh-message-spec =
     tie.close
-    (tie.spec valid-requires returns scan-requires verdict-requires same-length same-length-2 returns-2)
+    (tie.spec
+    valid-requires
+    returns
+    scan-requires
+    refusal-requires
+    same-length
+    same-length-2
+    returns-2
+    same-length-3
+    same-length-4
+    returns-3)
