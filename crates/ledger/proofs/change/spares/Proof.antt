@@ -24,6 +24,9 @@ told c = c .before .before
 abbrev start : tie.After-known-told → tie.Start
 start c = c .before .before .before .before .before
 
+abbrev refused : tie.After-enum-told → tie.Start
+refused c = c .before .before .before .before
+
 abbrev ledger : tie.Start → Ledger
 ledger s = inCells (now (s .args .cells))
 
@@ -57,8 +60,7 @@ enum-told c = search needs
 
 returns : tie.Need-returns
 returns c =
-    let s = c .before .before .before .before in
-    absurd (false≢true (sym (least-refused _ _ (sym (c .before .before .least .ensures) ∙ c .enum-told .given .1)) ∙ one-of s .0))
+    absurd (false≢true (sym (least-refused _ _ (sym (c .before .before .least .ensures) ∙ c .enum-told .given .1)) ∙ one-of (refused c) .0))
 
 balance-of-requires : tie.Need-balance-of-requires
 balance-of-requires c κs = let s = start c in (s .pre .0, s .pre .1)

@@ -7,7 +7,11 @@ use Rattle.message.proofs.Numbers.{accepted-check, verdict-refused}
 use Rattle.reader.proofs.read.receive.Statement.{statement}
 use Rattle.reader.proofs.read.receive.Tie as tie
 
--- the check that refused
+-- the entry, from the check, and the check that refused
+
+abbrev start : tie.After-check → tie.Start
+start c = c .before .before
+
 abbrev checked : tie.After-refused → tie.After-check
 checked c = c .before .before .before .before
 
@@ -18,7 +22,7 @@ enum-told : tie.Need-enum-told
 enum-told c = search needs
 
 -- where it passed, there is no fault
-passed : (c : tie.After-enum-told) → let a = c .before .before .before .before .args in check (a .config) (a .msg .now) ≡ 0
+passed : (c : tie.After-enum-told) → let a = start (c .before .before) .args in check (a .config) (a .msg .now) ≡ 0
 unfolding checkAnswer
 passed c = accepted-check _ (sym (c .before .before .check .ensures) ∙ c .enum-told .given .1)
 

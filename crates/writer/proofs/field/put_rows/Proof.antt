@@ -23,11 +23,19 @@ Inv-loop out₀ at counts cells maps p₀ i₀ out p i = (i ≤ 16) × Written i
 abbrev μ-loop : tie.MeasureT-loop
 μ-loop out₀ at counts cells maps p₀ i₀ out p i = 16 - i
 
--- the function's start, seen from a turn
-abbrev start : tie.In-loop Inv-loop μ-loop → tie.Start Inv-loop μ-loop
-start c = c .before .before .before .before .before .before
+-- the function's start, seen from the loop and from a turn
 
--- a turn, seen from the call in it
+abbrev entry : tie.After-shared-slice-known3 Inv-loop μ-loop → tie.Start Inv-loop μ-loop
+entry c = c .before .before .before .before
+
+abbrev start : tie.In-loop Inv-loop μ-loop → tie.Start Inv-loop μ-loop
+start c = entry (c .before .before)
+
+-- a turn, seen from its cell map and from the call in it
+
+abbrev mapped : tie.After-shared-slice-known5 Inv-loop μ-loop → tie.In-loop Inv-loop μ-loop
+mapped c = c .before .before .before
+
 abbrev turn : tie.After-put-row-arg2 Inv-loop μ-loop → tie.In-loop Inv-loop μ-loop
 turn c = c .before .before .before .before
 
@@ -44,7 +52,7 @@ row-is c = part-row _ (now (start c .args .cells)) (c .before .loop .i)
 
 loop-holds : tie.Need-loop-holds Inv-loop μ-loop
 unfolding rows
-loop-holds c = (omega arith, written-none 16 _ _ _ (c .before .before .before .before .pre .3))
+loop-holds c = (omega arith, written-none 16 _ _ _ (entry c .pre .3))
 
 mul-a : tie.Need-mul-a Inv-loop μ-loop
 mul-a c = search needs
@@ -68,7 +76,7 @@ shared-slice-read-put-row-2 : tie.Need-shared-slice-read-put-row-2 Inv-loop μ-l
 shared-slice-read-put-row-2 c = omega (arith, maps-length (start (c .before .before .before)))
 
 cast-put-row-2 : tie.Need-cast-put-row-2 Inv-loop μ-loop
-cast-put-row-2 c = omega (arith, c .shared-slice-known5 .given (c .before .before .before .before .loop .i))
+cast-put-row-2 c = omega (arith, c .shared-slice-known5 .given (mapped c .before .loop .i))
 
 mul-put-row-3 : tie.Need-mul-put-row-3 Inv-loop μ-loop
 mul-put-row-3 c = search needs

@@ -9,6 +9,10 @@ use Rattle.desk.specs.Desks.{numberLawful, fits}
 use Rattle.desk.proofs.record.Desk.fits.Statement.{statement}
 use Rattle.desk.proofs.record.Desk.fits.Tie as tie
 
+-- where the test of the replica starts from
+abbrev of-number : tie.After-fits2 → tie.Else1
+of-number c = c .before .before .before
+
 -- the number is a desk's
 number-in : (c : tie.Else1) → numberLawful (c .before .before .args .self .number) ≡ true
 number-in c = sym (c .before .number-lawful .ensures) ∙ not-false _ (c .if1 .left)
@@ -25,11 +29,11 @@ fits-requires c κs = search needs
 
 returns-2 : tie.Need-returns-2
 unfolding fits
-returns-2 c = simp (number-in (c .before .before .before .before), sym (c .before .fits2 .ensures) ∙ not-true _ (c .if2 .taken))
+returns-2 c = simp (number-in (of-number (c .before)), sym (c .before .fits2 .ensures) ∙ not-true _ (c .if2 .taken))
 
 -- and what is held is lawful, as is the cluster
 replica-in : (c : tie.Else2) →
-    let x = c .before .before .before .before .before .before .args .self in
+    let x = of-number (c .before) .before .before .args .self in
     fitsReplica (x .config) (x .replica) ≡ true
 replica-in c = sym (c .before .fits2 .ensures) ∙ not-false _ (c .if2 .left)
 
@@ -40,7 +44,7 @@ returns-3 : tie.Need-returns-3
 unfolding fits
 returns-3 c =
     let replica = c .before .before in
-    simp (number-in (replica .before .before .before .before), replica-in replica) (c .fits3 .ensures)
+    simp (number-in (of-number (replica .before)), replica-in replica) (c .fits3 .ensures)
 
 pub fits-spec : {M : Type 1} → statement M
 fits-spec =
