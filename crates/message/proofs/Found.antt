@@ -1,23 +1,30 @@
 -- Reading undoes writing: what the writer takes, which is every lawful envelope with a replica that fits, is found again in its bytes.
-use Prim.Native.Nat.{ℕ, suc}
+use Prim.Native.Nat.{ℕ, suc, _<_}
 use native.Mathlib.Omega.{arith}
 use mathlib.Core.Path.{_≡_, refl, sym, _∙_}
 use mathlib.Core.Logic.{_↔_}
 use mathlib.Core.Bool.{Bool, true, false}
+use mathlib.Core.List.{List}
 use borrow.Author.Tests.{ltb-true, eq-eqb}
 use lib.Dec.{ltb}
+use Rattle.quorums.proofs.Tests.{test-false}
 use Rattle.config.specs.Cluster.{validOf}
 use Rattle.config.specs.declared.cluster.Config.{Config}
+use Rattle.config.specs.declared.answer.Number.{Number}
 use Rattle.config.specs.declared.answer.Verdict.{Verdict}
+use Rattle.config.specs.Refusals.{refusal}
 use Rattle.ledger.specs.Checks.{bounded, aboveFloor}
 use Rattle.replica.specs.declared.replica.Replica.{Replica}
+use Rattle.replica.specs.Values.{mostValue}
 use Rattle.replica.specs.Registers.{registerFits}
 use Rattle.replica.specs.Replicas.{fits, Typed as TypedReplica}
+use Rattle.replica.proofs.Values.{fits-short}
+use Rattle.replica.proofs.Registers.{fits-value}
 use Rattle.replica.proofs.Replicas.{fits-told, told-fits}
 use Rattle.message.specs.declared.envelope.Envelope.{Envelope}
 use Rattle.message.specs.Envelopes.{messageOf, trimmedReplica, Typed}
 use Rattle.message.specs.Cursors.{within}
-use Rattle.message.specs.Answers.{check, receiveOf}
+use Rattle.message.specs.Answers.{check, receiveOf, writeOf}
 use Rattle.message.specs.Faults.{kindFits, lawful, test, faultOf}
 use Rattle.message.proofs.Faults.{HeadGood, message-found, fault-is-check}
 use Rattle.message.proofs.Lawful.{lawful-told, told-lawful}
@@ -49,6 +56,13 @@ module _ (c : Config) (e : Envelope) (r : Replica) where
       let g = fits-told c r f in
       simp (g .valid, k .kind-good, k .fields-good, k .server-good, g .register-fits, g .ledger-bounded, g .ledger-above)
 
+  long-fault : validOf c ≡ true → lawful c e ≡ true → mostValue < r .register .value .length → faultOf c e r ≡ 4
+  unfolding faultOf
+  long-fault valid l long =
+      let k = lawful-told c e l in
+      let unfit = test-false (registerFits c (r .register)) (λ f. omega (arith, long, fits-short _ (fits-value c (r .register) f))) in
+      simp (valid, k .kind-good, k .fields-good, k .server-good, unfit)
+
 module _ (c : Config) (e : Envelope) (r : Replica) (te : Typed e) (tr : TypedReplica r) where
   -- so the reader takes these messages, and no others
   pub taken-told : (check c (messageOf c e r) ≡ 0) ↔ ((lawful c e ≡ true) × (fits c r ≡ true))
@@ -67,3 +81,9 @@ module _ (c : Config) (e : Envelope) (r : Replica) (te : Typed e) (tr : TypedRep
       let head : HeadGood c e r te tr (g .valid) =
       record { kind-good = k .kind-good; fields-good = k .fields-good; server-good = ltb-true _ _ (k .server-good) } in
       simp (eq-eqb (check c (messageOf c e r)) 0 clean) (message-found c e r te tr (g .valid) head (g .register-fits) (g .ledger-bounded))
+
+  -- a register of more than 64 bytes is not written, nor cut to be: it is 4, and the buffer is as it was
+  pub long-refused : (out : List ℕ) (at : ℕ) → validOf c ≡ true → lawful c e ≡ true → mostValue < r .register .value .length
+      → writeOf c e r out at ≡ record { answer = Number.Refused (refusal 4); out = out }
+  unfolding writeOf
+  long-refused out at valid l long = simp (fault-is-check c e r te tr ∙ long-fault c e r valid l long)
