@@ -81,3 +81,9 @@ module _ {n m : ℕ} {part : ℕ → List ℕ} {l out : List ℕ} {at p : ℕ} (
   written-all {e} done whole =
       let s : series n part ≡ e = rw done whole in
       (w .is-buffer ∙ ap (λ x. onto x l at) s, w .is-place ∙ ap (λ x. at + length x) s)
+
+-- all parts from the front of a buffer on
+pub written-front : {n m : ℕ} {part : ℕ → List ℕ} {l out : List ℕ} {p : ℕ} → Written n m part l out 0 p → {e : List ℕ} → n ≡ m → series m part ≡ e
+    → (out ≡ over e l) × (p ≡ length e)
+unfolding onto
+written-front w {e} done whole = let all = written-all w done whole in (all .0, omega (arith, all .1))

@@ -35,9 +35,8 @@ pub fn write(
     if ((out.len() - at) as u64) < plan.bytes {
         return Number::Refused(Refusal::Narrow);
     }
-    let end = fill(
-        out,
-        at,
+    let written = fill(
+        &mut out[at..],
         config,
         envelope,
         register,
@@ -46,5 +45,5 @@ pub fn write(
         plan.map,
         rows,
     );
-    Number::Value(end as u64)
+    Number::Value((at + written) as u64)
 }

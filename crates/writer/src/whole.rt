@@ -1,4 +1,4 @@
-// A whole message into a buffer from a place on.
+// A whole message into the front of a buffer.
 use super::field::put_head;
 use super::field::put_register;
 use super::field::put_rows;
@@ -13,13 +13,12 @@ ghost use lib.ListN.{length, getD};
 ghost use Rattle.ledger.specs.Tables.{table};
 ghost use Rattle.format.specs.Table.{cellMap, rowMap, fieldMapOf};
 ghost use Rattle.message.specs.Envelopes.{fieldsOf, messageOf};
+ghost use Rattle.message.specs.Answers.{over};
 ghost use Rattle.writer.specs.Outlines.{replicaIn};
-ghost use Rattle.writer.specs.Places.{onto};
 
 // Counts and cells are lent beside the register: taken out of a replica here, they would be copied.
 pub(crate) fn fill<'a>(
     out: &mut [u8],
-    at: usize,
     config: Config,
     envelope: Envelope,
     register: Register,
@@ -28,12 +27,12 @@ pub(crate) fn fill<'a>(
     map: u64,
     rows: Rows,
 ) -> usize
-    requires { ⌜ (length (now counts) ≡ 16) × (length (now cells) ≡ 256) × (register .value .length ≤ 64) × (map ≡ fieldMapOf (fieldsOf envelope (replicaIn (now counts) (now cells) register))) × (rows .map ≡ rowMap (λ i. getD (now counts) i 0) (λ i j. getD (now cells) (i * 16 + j) 0)) × (rows .maps ≡ table 16 (λ i. cellMap (λ j. getD (now cells) (i * 16 + j) 0))) × (at + length (messageOf config envelope (replicaIn (now counts) (now cells) register)) ≤ length (now out)) ⌝ }
-    ensures { λ r. ⌜ (now (out .exit) ≡ onto (messageOf config envelope (replicaIn (now (counts .entry)) (now (cells .entry)) register)) (now (out .entry)) at) × (r ≡ at + length (messageOf config envelope (replicaIn (now (counts .entry)) (now (cells .entry)) register))) ⌝ }
+    requires { ⌜ (length (now counts) ≡ 16) × (length (now cells) ≡ 256) × (register .value .length ≤ 64) × (map ≡ fieldMapOf (fieldsOf envelope (replicaIn (now counts) (now cells) register))) × (rows .map ≡ rowMap (λ i. getD (now counts) i 0) (λ i j. getD (now cells) (i * 16 + j) 0)) × (rows .maps ≡ table 16 (λ i. cellMap (λ j. getD (now cells) (i * 16 + j) 0))) × (length (messageOf config envelope (replicaIn (now counts) (now cells) register)) ≤ length (now out)) ⌝ }
+    ensures { λ r. ⌜ (now (out .exit) ≡ over (messageOf config envelope (replicaIn (now (counts .entry)) (now (cells .entry)) register)) (now (out .entry))) × (r ≡ length (messageOf config envelope (replicaIn (now (counts .entry)) (now (cells .entry)) register))) ⌝ }
 {
     let maps = rows.maps;
     let note = envelope.note as u64;
-    let p = put_head(out, at, map, envelope);
+    let p = put_head(out, 0, map, envelope);
     let p = put_register(out, p, config, register);
     let p = put_number(out, p, rows.map, 2, rows.map);
     let p = put_rows(out, p, counts, cells, &maps);

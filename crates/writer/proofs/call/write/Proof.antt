@@ -1,4 +1,5 @@
--- `write` meets its contract: the reader's number is found without the bytes, the size before the first byte, and `fill` writes from the place on.
+-- `write` meets its contract: the reader's verdict is found without the bytes, the size before the first byte, and the part from the place on is lent to
+-- `fill`.
 use Prim.Native.Nat.{ℕ, _+_, _≤_}
 use native.Mathlib.Omega.{arith}
 use mathlib.Core.Path.{_≡_, sym, ap, ap₂, _∙_}
@@ -23,7 +24,7 @@ use Rattle.message.proofs.Faults.{fault-is-check}
 use Rattle.message.proofs.Found.{taken-told}
 use Rattle.writer.specs.Outlines.{Counted, outlineOf, sizeOf}
 use Rattle.writer.proofs.Messages.{message-length, map-length}
-use Rattle.writer.proofs.Writes.{write-refused, write-narrow, write-done}
+use Rattle.writer.proofs.Writes.{lent-length, write-refused, write-narrow, write-done}
 use Rattle.writer.proofs.call.write.Statement.{statement}
 use Rattle.writer.proofs.call.write.Tie as tie
 
@@ -151,13 +152,28 @@ returns-3 c =
     let plan = c .before .before .before in
     write-narrow _ _ _ _ _ (taken (passed (plan .before))) (omega (arith, c .if2 .taken, c .before .before .if1 .left, size-is plan))
 
+sub-fill : tie.Need-sub-fill
+sub-fill c = search needs
+
+part-fill-start : tie.Need-part-fill-start
+part-fill-start c = search needs
+
+part-fill-end : tie.Need-part-fill-end
+part-fill-end c = search needs
+
 fill-requires : tie.Need-fill-requires
 fill-requires c κs =
     let wide = lent-fill c in
     let plan = measured wide in
     let m = plan .before .mark-rows .ensures in
     let e = passed (plan .before) in
-    (sized e .counts-length, sized e .cells-length, short e, map-is plan, m .0, m .1, room wide)
+    let a = entered wide .args in
+    (sized e .counts-length, sized e .cells-length, short e, map-is plan, m .0, m .1, omega (arith, room wide, lent-length (a .at) (now (a .out))))
+
+add-t21 : tie.Need-add-t21
+add-t21 c =
+    let filled = c .before .before in
+    omega (arith, room (widened filled), filled .fill .ensures .1, entered (widened filled) .good .1 .1 .1 .0 .0)
 
 same-length : tie.Need-same-length
 same-length c = search needs
@@ -166,7 +182,8 @@ returns-4 : tie.Need-returns-4
 returns-4 c =
     let filled = c .before .before in
     let wide = widened filled in
-    write-done _ _ _ _ _ _ _ (taken (passed (measured wide .before))) (room wide) (filled .fill .ensures)
+    let f = filled .fill .ensures in
+    write-done _ _ _ _ _ _ _ (taken (passed (measured wide .before))) (room wide) (f .0) (f .1)
 
 pub write-spec : {M : Type 1} → statement M
 write-spec =
@@ -181,6 +198,10 @@ write-spec =
     returns-2
     sub-if2
     returns-3
+    sub-fill
+    part-fill-start
+    part-fill-end
     fill-requires
+    add-t21
     same-length
     returns-4)

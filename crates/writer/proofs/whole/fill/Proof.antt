@@ -13,7 +13,7 @@ use Rattle.replica.specs.declared.replica.Replica.{Replica}
 use Rattle.replica.specs.Values.{bytesOf}
 use Rattle.message.specs.Envelopes.{messageOf}
 use Rattle.writer.specs.Outlines.{replicaIn}
-use Rattle.writer.proofs.Places.{Written, written-none, written-room, written-next, written-all}
+use Rattle.writer.proofs.Places.{Written, written-none, written-room, written-next, written-front}
 use Rattle.writer.proofs.Messages.{message-written}
 use Rattle.writer.proofs.whole.fill.Statement.{statement}
 use Rattle.writer.proofs.whole.fill.Tie as tie
@@ -37,7 +37,7 @@ fields s k =
     ∷ []) k []
 
 abbrev Done : ℕ → tie.Start → List ℕ → ℕ → Type 0
-Done n s out p = Written n 5 (fields s) (now (s .args .out)) out (s .args .at) p
+Done n s out p = Written n 5 (fields s) (now (s .args .out)) out 0 p
 
 whole : (s : tie.Start) → series 5 (fields s) ≡ messageOf (s .args .config) (s .args .envelope) (carrying s)
 unfolding series
@@ -71,8 +71,8 @@ prev-note c = c .before .before .before
 
 -- ---- each call writes one field more
 
-none : (s : tie.Start) → Done 0 s (now (s .args .out)) (s .args .at)
-none s = written-none 5 (fields s) _ _ (rw (whole s) (s .pre .6))
+none : (s : tie.Start) → Done 0 s (now (s .args .out)) 0
+none s = written-none 5 (fields s) _ 0 (omega (arith, ap length (whole s), s .pre .6))
 
 head-put : (c : tie.After-put-head) → Done 1 (start (c .before)) (c .put-head .last .0) (c .put-head .result)
 head-put c = written-next (none (start (c .before))) (c .put-head .ensures)
@@ -117,7 +117,7 @@ same-length c = search needs
 returns : tie.Need-returns
 returns c =
     let put = c .before .before in
-    written-all (written-next (rows-put (prev-note (put .before))) (put .put-number2 .ensures)) refl (whole (start-rows (prev-note (put .before))))
+    written-front (written-next (rows-put (prev-note (put .before))) (put .put-number2 .ensures)) refl (whole (start-rows (prev-note (put .before))))
 
 pub fill-spec : {M : Type 1} → statement M
 fill-spec =
