@@ -129,9 +129,9 @@ static bool operation_fits(const tovridsa_config *config, uint32_t round, const 
 {
     if (operation->mode > TOVRIDSA_ENDED || (operation->mode != TOVRIDSA_NONE && round == 0))
         return false;
-    if (operation->mode != TOVRIDSA_NONE && operation->kind != TOVRIDSA_READ && operation->kind != TOVRIDSA_WRITE)
+    if (operation->kind > TOVRIDSA_WRITE || (operation->mode != TOVRIDSA_NONE && operation->kind == 0))
         return false;
-    if (operation->mode == TOVRIDSA_RUNNING && operation->phase != 1 && operation->phase != 2)
+    if (operation->phase > 2 || (operation->mode == TOVRIDSA_RUNNING && operation->phase == 0))
         return false;
     return operation->answered >> config->n == 0 && operation->restarts <= round && operation->value.length <= MOST_VALUE &&
            register_fits(&operation->chosen);
@@ -944,6 +944,19 @@ static void turn_desk_bits(const struct desk_sample *sample)
     }
 }
 
+/* Kinds and phases up to two past the last, whatever the mode. */
+static void try_kinds_and_phases(const struct desk_sample *sample)
+{
+    for (uint16_t kind = 0; kind <= 4; kind++)
+        for (uint16_t phase = 0; phase <= 4; phase++) {
+            tovridsa_desk desk = sample->desk;
+
+            desk.operation.kind = kind;
+            desk.operation.phase = phase;
+            try_desk(&desk, &sample->message);
+        }
+}
+
 /* Some servers, and of the cluster of five a desk in each mode and phase. */
 static void test_bits(void)
 {
@@ -959,6 +972,7 @@ static void test_bits(void)
         if (desk->config.n == 5 && !*done) {
             *done = true;
             turn_desk_bits(&desk_samples[k]);
+            try_kinds_and_phases(&desk_samples[k]);
         }
     }
     CHECK(tried[TOVRIDSA_NONE][0] && tried[TOVRIDSA_RUNNING][1] && tried[TOVRIDSA_RUNNING][2] && tried[TOVRIDSA_ENDED][0]);
