@@ -52,10 +52,7 @@ pub(crate) fn fault(config: Config, envelope: Envelope, replica: Replica) -> Ver
         return Verdict::Refused(Refusal::OddField);
     }
     match ledger.check_bounds(config) {
-        Verdict::Accepted => match ledger.check_floor(config) {
-            Verdict::Accepted => Verdict::Accepted,
-            Verdict::Refused(_) => Verdict::Refused(Refusal::Light),
-        },
-        Verdict::Refused(_) => Verdict::Refused(Refusal::OddField),
+        Verdict::Accepted => ledger.check_floor(config),
+        Verdict::Refused(r) => Verdict::Refused(r),
     }
 }

@@ -1,11 +1,16 @@
 -- `fault` meets its contract, test by test.
-use mathlib.Core.Path.{_≡_, sym, _∙_}
-use mathlib.Core.Bool.{true, cond}
+use mathlib.Core.Path.{_≡_, refl, sym, ap, _∙_}
+use mathlib.Core.Bool.{Bool, true, false, cond}
 use borrow.Author.Needs.{needs}
 use borrow.Author.Tests.{not-true, not-false, lt-ltb, le-ltb, le-leb, lt-leb}
 use Rattle.config.specs.Cluster.{validOf}
-use Rattle.ledger.specs.Checks.{bounded, aboveFloor}
-use Rattle.ledger.proofs.Checks.{floor-told, floor-refused, bounds-told, bounds-refused}
+use lib.Dec.{eqb}
+use Rattle.config.specs.Refusals.{refusal}
+use Rattle.config.specs.declared.cluster.Config.{Config}
+use Rattle.config.specs.declared.answer.Verdict.{Verdict}
+use Rattle.ledger.specs.declared.ledger.Ledger.{Ledger}
+use Rattle.ledger.specs.Checks.{bounded, aboveFloor, checkAnswer}
+use Rattle.ledger.proofs.Checks.{check-floor, check-bounds}
 use Rattle.message.specs.Cursors.{within}
 use Rattle.replica.specs.Registers.{registerFits}
 use Rattle.message.specs.Answers.{verdictOf}
@@ -65,6 +70,18 @@ passed : (c : tie.Else6) →
     faultOf (a .config) (a .envelope) (a .replica) ≡ cond (bounded (a .config) (a .replica .ledger)) (cond (aboveFloor (a .config) (a .replica .ledger)) 0 5) 4
 passed c = enveloped (fifth c) ∙ simp (sym (c .before .fits2 .ensures) ∙ not-false _ (c .if6 .left))
 
+-- the check of a ledger, as a number's verdict
+checked : (c : Config) (l : Ledger) → validOf c ≡ true → checkAnswer c l ≡ verdictOf (cond (bounded c l) (cond (aboveFloor c l) 0 5) 4)
+unfolding checkAnswer verdictOf
+checked c l v = rw v (by-tests (bounded c l) (aboveFloor c l))
+  where
+    by-tests : (b a : Bool)
+        → cond b (cond a Verdict.Accepted (Verdict.Refused (refusal 5))) (Verdict.Refused (refusal 4))
+        ≡ cond (eqb (cond b (cond a 0 5) 4) 0) Verdict.Accepted (Verdict.Refused (refusal (cond b (cond a 0 5) 4)))
+    by-tests true true = refl
+    by-tests true false = refl
+    by-tests false a = refl
+
 valid-requires : tie.Need-valid-requires
 valid-requires c κs = search needs
 
@@ -110,48 +127,27 @@ enum-told c = search needs
 check-floor-requires : tie.Need-check-floor-requires
 check-floor-requires c κs = search needs
 
-enum-told-2 : tie.Need-enum-told-2
-enum-told-2 c = search needs
+enum-known-r : tie.Need-enum-known-r
+enum-known-r c = search needs
 
-enum-told-3 : tie.Need-enum-told-3
-enum-told-3 c = search needs
-
-enum-told-4 : tie.Need-enum-told-4
-enum-told-4 c = search needs
-
--- the cluster is within bounds
-abbrev lawful : tie.Else6 → tie.Else1
-lawful c = first (third (fourth (fifth c)))
-
--- the ledger is within bounds
-in-bounds : (c : tie.After-enum-told) →
-    let t = c .before .before .before in
-    let a = entry (fifth t) .args in
-    bounded (a .config) (a .replica .ledger) ≡ true
-in-bounds c = bounds-told _ _ (valid (lawful (c .before .before .before))) (sym (c .before .before .check-bounds .ensures) ∙ c .enum-told .given .1)
+-- the verdict on the ledger is what its own check answers
+ledger-verdict : (c : tie.Else6) →
+    let a = entry (fifth c) .args in
+    checkAnswer (a .config) (a .replica .ledger) ≡ verdictOf (faultOf (a .config) (a .envelope) (a .replica))
+ledger-verdict c =
+    let a = entry (fifth c) .args in
+    checked (a .config) (a .replica .ledger) (valid (first (third (fourth (fifth c))))) ∙ sym (ap verdictOf (passed c))
 
 returns-7 : tie.Need-returns-7
-unfolding verdictOf
 returns-7 c =
-    let told = c .before .before .before in
+    let told = c .before in
     let t = told .before .before .before in
-    let above = floor-told _ _ (valid (lawful t)) (sym (c .before .before .check-floor .ensures) ∙ c .enum-told2 .given .1) in
-    rw (passed t) (simp (in-bounds told, above))
+    c .check-floor .ensures ∙ check-floor _ _ (sym (told .before .before .check-bounds .ensures) ∙ told .enum-told .given .1) ∙ ledger-verdict t
 
 returns-8 : tie.Need-returns-8
-unfolding verdictOf
 returns-8 c =
-    let told = c .before .before .before in
-    let t = told .before .before .before in
-    let light = floor-refused _ _ _ (valid (lawful t)) (sym (c .before .before .check-floor .ensures) ∙ c .enum-told3 .given .1) in
-    rw (passed t) (simp (in-bounds told, light))
-
-returns-9 : tie.Need-returns-9
-unfolding verdictOf
-returns-9 c =
-    let t = c .before .before .before in
-    let out = bounds-refused _ _ _ (valid (lawful t)) (sym (c .before .before .check-bounds .ensures) ∙ c .enum-told4 .given .1) in
-    rw (passed t) (simp out)
+    let check = c .before .before .before in
+    check-bounds _ _ _ (sym (check .check-bounds .ensures) ∙ c .before .r .given .1) ∙ ledger-verdict (check .before)
 
 pub fault-spec : {M : Type 1} → statement M
 fault-spec =
@@ -170,9 +166,6 @@ fault-spec =
     check-bounds-requires
     enum-told
     check-floor-requires
-    enum-told-2
-    enum-told-3
-    enum-told-4
+    enum-known-r
     returns-7
-    returns-8
-    returns-9)
+    returns-8)
