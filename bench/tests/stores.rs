@@ -88,8 +88,8 @@ fn kinds_and_phases_go_with_the_mode() {
             desk.operation.kind = most_often_small(&mut random);
             desk.operation.phase = most_often_small(&mut random);
             let fits = desk.operation.has_kind_and_phase();
-            let core = trio.on_desk(&mut random, i, &desk, &words);
-            assert_eq!(core != -1_000_001, fits, "{words}: {:?}", desk.operation);
+            let dropped = trio.on_desk(&mut random, i, &desk, &words);
+            assert_eq!(dropped != -1_000_001, fits, "{words}: {:?}", desk.operation);
             *reached.entry((desk.operation.mode, fits)).or_insert(0) += 1;
         }
     }

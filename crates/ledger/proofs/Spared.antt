@@ -1,30 +1,34 @@
--- What a server can spare: it is small enough for its ledger, and with it every weight stays above the floor.
+-- What a server can spare: it is small enough for its ledger, and a ledger that fits still does when it is given.
 use Prim.Native.Nat.{ℕ, _+_, _-_, _≤_, _<_}
 use native.Mathlib.Decide.{ℕ-discrete}
 use native.Mathlib.Omega.{arith}
 use mathlib.Core.Path.{_≡_, refl, sym, ap, _∙_}
 use mathlib.Core.Logic.{⊎-elim}
-use mathlib.Core.Bool.{true}
-use borrow.Author.Tests.{le-leb, lt-leb, leb-true}
-use lib.Dec.{leb}
+use mathlib.Core.Bool.{Bool, true, false, cond}
+use borrow.Author.Tests.{le-leb, lt-leb, leb-true, ltb-true}
+use lib.Dec.{leb, ltb}
 use lib.IntN.{pos, _+ℤ_}
 use Rattle.quorums.specs.Accounts.{held, weight, above}
 use Rattle.quorums.proofs.Sums.{sum-add, sum-zero, sum-rest, all-each, each-all}
 use Rattle.quorums.proofs.Tests.{le-or-lt}
 use Rattle.quorums.proofs.Differences.{difference-less, difference-more}
 use Rattle.quorums.proofs.Weights.{above-grows}
-use Rattle.config.specs.Cluster.{validOf, startOf, totalOf, aboveOf, leastOf, mostWeight}
+use Rattle.config.specs.Refusals.{refusal}
+use Rattle.config.specs.Cluster.{validOf, serverOf, startOf, totalOf, aboveOf, leastOf, mostWeight}
 use Rattle.config.specs.declared.cluster.Config.{Config}
-use Rattle.config.proofs.Clusters.{valid-bounds, total-small, above-least}
+use Rattle.config.proofs.Clusters.{valid-bounds, server-valid, total-small, above-least}
 use Rattle.ledger.specs.declared.ledger.Ledger.{Ledger}
-use Rattle.ledger.specs.Ledgers.{countOf, cellOf, givenOf, receivedOf, accountsOf, Typed}
+use Rattle.ledger.specs.Ledgers.{countOf, cellOf, givenOf, receivedOf, accountsOf, refused, accepted, Typed}
 use Rattle.ledger.specs.Weights.{weightOf}
-use Rattle.ledger.specs.Checks.{rowFits, serverAbove, bounded, aboveFloor}
-use Rattle.ledger.specs.Changes.{mostCount, spares, added}
+use Rattle.ledger.specs.Checks.{rowFits, serverAbove, bounded, aboveFloor, fits}
+use Rattle.ledger.specs.Changes.{lawful, mostCount, spares, added, giveAnswer, addAnswer}
 use Rattle.ledger.proofs.Lines.{inCells}
 use Rattle.ledger.proofs.Totals.{bounded-told, total-fits-told, received-given}
 use Rattle.ledger.proofs.Majorities.{each-above}
-use Rattle.ledger.proofs.Added.{giver-weight, taker-weight, other-weight}
+use Rattle.ledger.proofs.Checks.{ledger-told, told-ledger}
+use Rattle.ledger.proofs.Changes.{lawful-told}
+use Rattle.ledger.proofs.Kept.{added-typed}
+use Rattle.ledger.proofs.Added.{giver-weight, taker-weight, other-weight, added-bounded}
 
 -- the test, in plain numbers: the gift and the least weight on top of what was given
 pub spares-is : (c : Config) (l : Ledger) (i d : ℕ) → validOf c ≡ true → spares c l i d ≡ leb (givenOf l i + d + leastOf c) (startOf c i + receivedOf l i)
@@ -110,3 +114,64 @@ added-above c l i j d t hi hj hn ne a p =
     one k h (yes e) q = rw e (ap (aboveOf c) (giver-weight l i j d t hi hj c ne) ∙ p)
     one k h (no e) (yes q) = rw q (ap (aboveOf c) (taker-weight l i j d t hi hj c ne) ∙ more-above c l j d (each-above c l a j (omega (arith, h))))
     one k h (no e) (no q) = ap (aboveOf c) (other-weight l i j d t hi hj c k (omega arith) e q) ∙ each-above c l a k h
+
+-- so the ledger with it is within bounds, and not light
+pub added-kept : (c : Config) (l : Ledger) (i j d : ℕ) → Typed l → validOf c ≡ true → i < c .n → lawful c i j d ≡ true → bounded c l ≡ true
+    → aboveFloor c l ≡ true
+    → spares c l i d ≡ true
+    → (bounded c (added l i j d) ≡ true) × (aboveFloor c (added l i j d) ≡ true)
+added-kept c l i j d t v hi w b a p =
+    let most = valid-bounds c v .most in
+    let k = lawful-told c i j d w in
+    let small : (i < 16) × (j < 16) = omega (arith, most, k .1) in (
+      added-bounded l i j d t (small .0) (small .1) c hi w (spared-small c l i d v b a hi p) b,
+      added-above c l i j d t (small .0) (small .1) most (k .0) a p,
+    )
+
+-- ---- what `add` hands back
+
+-- the tests that a transfer passes
+record Adds (c : Config) (l : Ledger) (i j d : ℕ) : Type 0 where
+  pub one-of : serverOf c i ≡ true
+  pub sound : fits c l ≡ true
+  pub legal : lawful c i j d ≡ true
+  pub counted : countOf l i < mostCount
+  pub spared : spares c l i d ≡ true
+
+add-cases : (P : Ledger → Type 0) (c : Config) (l : Ledger) (i j d : ℕ) → (Adds c l i j d → P (added l i j d)) → P l → P (addAnswer c l i j d .ledger)
+unfolding addAnswer giveAnswer
+add-cases P c l i j d done left =
+    by-tests (serverOf c i) (fits c l) (lawful c i j d) (ltb (countOf l i) mostCount) (spares c l i d) refl refl refl refl refl
+  where
+    by-tests : (o f w t p : Bool) → serverOf c i ≡ o → fits c l ≡ f → lawful c i j d ≡ w → ltb (countOf l i) mostCount ≡ t → spares c l i d ≡ p
+        → P (cond o (cond f (cond w (cond t (cond p (accepted (added l i j d)) (refused (refusal 10) l)) (refused (refusal 12) l)) (refused (refusal 11) l)) (refused (refusal 1) l)) (refused (refusal 1) l) .ledger)
+    by-tests true true true true true a b e k g = done (record { one-of = a; sound = b; legal = e; counted = ltb-true _ _ k; spared = g })
+    by-tests true true true true false a b e k g = left
+    by-tests true true true false p a b e k g = left
+    by-tests true true false t p a b e k g = left
+    by-tests true false w t p a b e k g = left
+    by-tests false f w t p a b e k g = left
+
+-- A ledger that fits still does, whatever is asked.
+pub add-fits : (c : Config) (l : Ledger) (i j d : ℕ) → Typed l → fits c l ≡ true → fits c (addAnswer c l i j d .ledger) ≡ true
+add-fits c l i j d t f = add-cases (λ x. fits c x ≡ true) c l i j d given f
+  where
+    given : Adds c l i j d → fits c (added l i j d) ≡ true
+    given g =
+        let s = server-valid c i (g .one-of) in
+        let b = ledger-told c l f in
+        let k = added-kept c l i j d t (s .0) (s .1) (g .legal) (b .0) (b .1) (g .spared) in
+        told-ledger c (added l i j d) (k .0) (k .1)
+
+-- And it is still one that a call can have.
+pub add-typed : (c : Config) (l : Ledger) (i j d : ℕ) → Typed l → Typed (addAnswer c l i j d .ledger)
+add-typed c l i j d t = add-cases Typed c l i j d given t
+  where
+    given : Adds c l i j d → Typed (added l i j d)
+    given g =
+        let s = server-valid c i (g .one-of) in
+        let b = ledger-told c l (g .sound) in
+        let k = lawful-told c i j d (g .legal) in
+        let most = valid-bounds c (s .0) .most in
+        added-typed l i j d t (omega (arith, most, s .1)) (omega (arith, most, k .1)) (g .counted)
+        (spared-room c l i j d (s .0) (b .0) (b .1) (s .1) (k .1) (g .counted) (g .spared))

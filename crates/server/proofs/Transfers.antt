@@ -1,24 +1,20 @@
 -- Transfers: their tests are those of `add` on the server's ledger, and a transfer keeps the record one that a party may hold.
-use Prim.Native.Nat.{ℕ, _+_, _≤_, _<_}
-use native.Mathlib.Omega.{arith}
+use Prim.Native.Nat.{ℕ, _≤_, _<_}
 use mathlib.Core.Path.{_≡_, refl}
 use mathlib.Core.Bool.{Bool, true, false, cond, false≢true}
 use borrow.Author.Tests.{lt-ltb, le-ltb, ltb-true}
 use lib.Dec.{ltb}
-use Rattle.config.specs.Cluster.{validOf, serverOf, mostWeight}
+use Rattle.config.specs.Cluster.{validOf, serverOf}
 use Rattle.config.specs.Refusals.{refusal}
 use Rattle.config.specs.declared.answer.Refusal.{Refusal}
 use Rattle.config.specs.declared.answer.Verdict.{Verdict}
-use Rattle.config.proofs.Clusters.{valid-bounds, server-valid, server-small}
+use Rattle.config.proofs.Clusters.{server-valid}
 use Rattle.ledger.specs.declared.ledger.Changed.{Changed}
-use Rattle.ledger.specs.Ledgers.{countOf, cellOf, accepted as added-ledger, refused as same-ledger}
+use Rattle.ledger.specs.Ledgers.{countOf, accepted as added-ledger, refused as same-ledger}
 use Rattle.ledger.specs.Checks.{bounded, aboveFloor, fits as fitsLedger}
 use Rattle.ledger.specs.Changes.{lawful, mostCount, spares, added, giveAnswer, addAnswer}
-use Rattle.ledger.proofs.Checks.{accepted-not-refused}
-use Rattle.ledger.proofs.Changes.{lawful-told}
-use Rattle.ledger.proofs.Kept.{added-typed}
-use Rattle.ledger.proofs.Added.{added-bounded}
-use Rattle.ledger.proofs.Spared.{spared-small, spared-room, added-above}
+use Rattle.ledger.proofs.Checks.{accepted-not-refused, ledger-told, told-ledger}
+use Rattle.ledger.proofs.Spared.{add-fits, add-typed}
 use Rattle.replica.specs.Registers.{registerFits}
 use Rattle.replica.specs.Replicas.{fits as fitsReplica}
 use Rattle.replica.proofs.Replicas.{Fits as Holds, fits-told as holds-told, told-fits as told-holds}
@@ -34,7 +30,6 @@ use Rattle.server.proofs.Servers.{fits-told, told-fits}
 pub record Standing (s : Server) : Type 0 where
   pub valid : validOf (s .config) ≡ true
   pub one-of : s .number < s .config .n
-  pub small : s .number < 16
   pub held : Holds (s .config) (s .replica)
 
 pub standing : (s : Server) → fits s ≡ true → Standing s
@@ -44,15 +39,8 @@ standing s e =
     record {
       valid = i .0;
       one-of = i .1;
-      small = server-small (s .config) (s .number) (t .server-in);
       held = holds-told (s .config) (s .replica) (t .replica-fits);
     }
-
--- what it spares is at most all weight
-pub gift-small : (s : Server) (d : ℕ) → fits s ≡ true → spares (s .config) (s .replica .ledger) (s .number) d ≡ true → d ≤ mostWeight
-gift-small s d e p =
-    let t = standing s e in
-    spared-small (s .config) (s .replica .ledger) (s .number) d (t .valid) (t .held .ledger-bounded) (t .held .ledger-above) (t .one-of) p
 
 -- ---- what a transfer comes to
 
@@ -158,53 +146,36 @@ transfer-adds s j d =
     by-tests false v b a true x h = refl
     by-tests false v b a false x h = refl
 
--- ---- what a transfer keeps
-
--- the cell has room
-gift-room : (s : Server) (j d : ℕ) → fits s ≡ true → Gives s j d → cellOf (s .replica .ledger) (s .number) j + d ≤ 4294967295
-gift-room s j d e g =
-    let t = standing s e in
-    spared-room (s .config) (s .replica .ledger) (s .number) j d (t .valid) (t .held .ledger-bounded) (t .held .ledger-above) (t .one-of)
-    (lawful-told (s .config) (s .number) j d (g .legal) .1) (g .counted) (g .spared)
-
--- the taker is one of the servers
-taker-small : (s : Server) (j d : ℕ) → fits s ≡ true → Gives s j d → j < 16
-taker-small s j d e g =
-    omega (arith, lawful-told (s .config) (s .number) j d (g .legal) .1, valid-bounds (s .config) (standing s e .valid) .most)
-
-gave-fits : (s : Server) (j d : ℕ) → Typed s → fits s ≡ true → Gives s j d → fits (gave s j d) ≡ true
-gave-fits s j d t e g =
-    let c = s .config in
-    let l = s .replica .ledger in
-    let i = s .number in
-    let x = standing s e in
-    let hj = taker-small s j d e g in
-    let lt = t .replica-typed .ledger-typed in
-    told-fits (gave s j d) (record {
-      server-in = fits-told s e .server-in;
-      replica-fits = told-holds c (gave s j d .replica) (record {
-        valid = x .valid;
-        ledger-bounded = added-bounded l i j d lt (x .small) hj c (x .one-of) (g .legal) (gift-small s d e (g .spared)) (x .held .ledger-bounded);
-        ledger-above = added-above c l i j d lt (x .small) hj (valid-bounds c (x .valid) .most) (lawful-told c i j d (g .legal) .0) (x .held .ledger-above) (g .spared);
-        register-fits = x .held .register-fits;
-      });
-    })
+-- ---- what a transfer keeps, as `add` does
 
 -- A server that fits still does after a transfer.
 pub transfer-fits : (s : Server) (j d : ℕ) → Typed s → fits s ≡ true → fits (transferOf s j d .server) ≡ true
-transfer-fits s j d t e = transfer-cases (λ r. fits (r .server) ≡ true) s j d (λ e g. gave-fits s j d t e g) (λ k. e)
+transfer-fits s j d t e =
+    let c = s .config in
+    let l = s .replica .ledger in
+    let x = standing s e in
+    let after = addAnswer c l (s .number) j d .ledger in
+    let k =
+    ledger-told c after (add-fits c l (s .number) j d (t .replica-typed .ledger-typed) (told-ledger c l (x .held .ledger-bounded) (x .held .ledger-above))) in
+    rw (transfer-adds s j d, x .held .register-fits)
+    (told-fits (holding s (record { ledger = after; register = s .replica .register })) (record {
+      server-in = fits-told s e .server-in;
+      replica-fits = told-holds c (record { ledger = after; register = s .replica .register })
+          (record { valid = x .valid; ledger-bounded = k .0; ledger-above = k .1; register-fits = x .held .register-fits });
+    }))
 
 -- And its record is still one that a call can have.
 pub transfer-typed : (s : Server) (j d : ℕ) → Typed s → Typed (transferOf s j d .server)
-transfer-typed s j d t = transfer-cases (λ r. Typed (r .server)) s j d given (λ k. t)
+transfer-typed s j d t = rw (transfer-adds s j d) (by-register (registerFits (s .config) (s .replica .register)))
   where
-    given : fits s ≡ true → Gives s j d → Typed (gave s j d)
-    given e g = record {
+    by-register : (g : Bool) → Typed (cond g (changedTo s (addAnswer (s .config) (s .replica .ledger) (s .number) j d)) (refused (refusal 1) s) .server)
+    by-register true = record {
       n-fits = t .n-fits;
       f-fits = t .f-fits;
       number-fits = t .number-fits;
       replica-typed = record {
-        ledger-typed = added-typed (s .replica .ledger) (s .number) j d (t .replica-typed .ledger-typed) (standing s e .small) (taker-small s j d e g) (g .counted) (gift-room s j d e g);
+        ledger-typed = add-typed (s .config) (s .replica .ledger) (s .number) j d (t .replica-typed .ledger-typed);
         register-typed = t .replica-typed .register-typed;
       };
     }
+    by-register false = t

@@ -11,7 +11,7 @@ use Rattle.config.proofs.Clusters.{server-valid, valid-bounds}
 use Rattle.ledger.specs.Ledgers.{countOf, cellOf}
 use Rattle.ledger.specs.Checks.{bounded, aboveFloor, fits}
 use Rattle.ledger.specs.Changes.{lawful, mostCount, spares, added, giveAnswer, addAnswer}
-use Rattle.ledger.proofs.Checks.{bounds-told, bounds-refused, floor-told, floor-refused}
+use Rattle.ledger.proofs.Checks.{bounds-told, bounds-refused, floor-told, floor-refused, told-ledger}
 use Rattle.ledger.proofs.Lines.{above-cells}
 use Rattle.ledger.proofs.Changes.{lawful-told}
 use Rattle.ledger.proofs.Ranges.{ledger-typed}
@@ -61,8 +61,7 @@ not-light : (c : tie.After-enum-told3) → aboveFloor (of-giver (of-ledger c) .a
 not-light c = floor-told _ _ (valid (of-ledger c)) (sym (c .before .before .check-floor .ensures) ∙ c .enum-told3 .given .1)
 
 sound : (c : tie.After-enum-told3) → fits (of-giver (of-ledger c) .args .config) (of-giver (of-ledger c) .args .t1) ≡ true
-unfolding fits
-sound c = rw (in-bounds (of-floor c)) (not-light c)
+sound c = told-ledger _ _ (in-bounds (of-floor c)) (not-light c)
 
 legal : (c : tie.Else2) → lawful (start c .args .config) (start c .args .giver) (start c .args .taker) (start c .args .amount) ≡ true
 legal c = sym (c .before .lawful .ensures) ∙ not-false _ (c .if2 .left)
