@@ -3,7 +3,7 @@ use super::answer::Decision;
 use super::answer::Number;
 use super::answer::Refusal;
 ghost use mathlib.Core.Path.{_≡_};
-ghost use Rattle.config.specs.Cluster.{configOf, validOf, serverOf, stampBytes, mostStamp};
+ghost use Rattle.config.specs.Cluster.{configOf, validOf, serverOf, startOf, stampBytes, mostStamp};
 ghost use Rattle.config.specs.Answers.{startAnswer, totalAnswer, leastAnswer, aboveAnswer};
 
 // Servers 0 to n - 1, of which f may crash.
@@ -79,7 +79,14 @@ impl Config {
         if !self.has(server) {
             return Number::Refused(Refusal::BadHouse);
         }
-        Number::Value(START)
+        Number::Value(self.start_at(server))
+    }
+
+    // The same with no test, for loops over the servers of a cluster that has passed.
+    pub fn start_at(self, server: u64) -> u64
+        ensures { λ r. ⌜ r ≡ startOf self server ⌝ }
+    {
+        START
     }
 
     // W: the start weights of all servers together.

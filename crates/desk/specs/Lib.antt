@@ -5,3 +5,4 @@ pub mod Begins
 pub mod Asks
 pub mod Results
 pub mod Hears
+pub mod Parts

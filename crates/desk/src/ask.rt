@@ -1,11 +1,12 @@
 // A desk asks a server (paper 01, "Desk": Ask).
 use super::operation::RUNNING;
 use super::record::Desk;
+use super::record::fits_in;
 use config::Number;
 use config::Refusal;
 use message::Envelope;
 use message::REQUEST;
-use writer::write;
+use writer::write_lent;
 ghost use mathlib.Core.Path.{_≡_};
 ghost use Rattle.desk.specs.Asks.{askOf};
 
@@ -15,25 +16,42 @@ impl Desk {
     pub fn ask(self, server: u64, out: &mut [u8], at: usize) -> Number
         ensures { λ r. ⌜ (r ≡ askOf self server (now (out .entry)) at .answer) × (now (out .exit) ≡ askOf self server (now (out .entry)) at .out) ⌝ }
     {
-        if !self.fits() {
+        let held = self.replica.register;
+        let operation = self.operation;
+        if !fits_in(
+            self.config,
+            self.number,
+            &self.replica.ledger.counts,
+            &self.replica.ledger.cells,
+            held,
+            self.round,
+            operation,
+        ) {
             return Number::Refused(Refusal::BadHouse);
         }
-        let operation = self.operation;
-        if operation.mode != RUNNING {
+        if self.operation.mode != RUNNING {
             return Number::Refused(Refusal::Idle);
         }
         let config = self.config;
         if config.n <= server {
             return Number::Refused(Refusal::BadHouse);
         }
-        let replica = self.replica;
+        let register = self.replica.register;
         let envelope = Envelope {
             kind: REQUEST,
             server: server as u8,
             desk: self.number as u16,
             round: self.round,
-            note: operation.note,
+            note: self.operation.note,
         };
-        write(config, envelope, replica, out, at)
+        write_lent(
+            config,
+            envelope,
+            &self.replica.ledger.counts,
+            &self.replica.ledger.cells,
+            register,
+            out,
+            at,
+        )
     }
 }

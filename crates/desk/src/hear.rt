@@ -4,18 +4,22 @@ use super::operation::RUNNING;
 use super::record::Desk;
 use super::record::Heard;
 use super::record::Hearing;
+use super::record::fits_in;
 use config::Refusal;
 use config::Verdict;
+use ledger::lacks_lent;
 use message::Envelope;
 use message::REPLY;
 use reader::receive;
-use replica::Joined;
+use replica::Register;
 use replica::Replica;
+use replica::join_lent;
 ghost use mathlib.Core.Path.{_≡_};
 ghost use mathlib.Core.Bool.{true};
+ghost use Rattle.replica.specs.Parts.{replicaOf};
 ghost use Rattle.message.specs.Faults.{Passed};
 ghost use Rattle.desk.specs.Desks.{fits as fitsOf};
-ghost use Rattle.desk.specs.Hears.{accepted, late as lateOf, refused, moved as movedOf, stray as strayOf, timely as timelyOf, joinOf, hearFields, hearOf};
+ghost use Rattle.desk.specs.Hears.{accepted, late as lateOf, refused, moved as movedOf, stray as strayOf, timely as timelyOf, hearFields, hearOf};
 
 impl Desk {
     // Takes a server's reply, which may start the operation over, end its phase or end it: 1 for the record, the message checks, 7 for anything but a
@@ -24,24 +28,45 @@ impl Desk {
     pub fn hear(self, msg: &[u8]) -> Heard
         ensures { λ r. ⌜ r ≡ hearOf self (now (msg .entry)) ⌝ }
     {
-        if !self.fits() {
+        let held = self.replica.register;
+        let operation = self.operation;
+        if !fits_in(
+            self.config,
+            self.number,
+            &self.replica.ledger.counts,
+            &self.replica.ledger.cells,
+            held,
+            self.round,
+            operation,
+        ) {
             return self.unheard(Refusal::BadHouse);
         }
         let got = receive(self.config, msg);
         let verdict = got.verdict;
         let envelope = got.envelope;
-        let replica = got.replica;
+        let told = got.replica.register;
         match verdict {
-            Verdict::Accepted => self.hear_fields(envelope, replica),
+            Verdict::Accepted => self.hear_fields(
+                envelope,
+                &got.replica.ledger.counts,
+                &got.replica.ledger.cells,
+                told,
+            ),
             Verdict::Refused(r) => self.unheard(r),
         }
     }
 
     // The same of the fields of a message that has passed its checks: 7, "late", 6, 12. A reply on a larger ledger starts the operation over; one on an
     // equal ledger counts as the server's answer.
-    fn hear_fields(self, envelope: Envelope, replica: Replica) -> Heard
-        requires { ⌜ (fitsOf self ≡ true) × Passed (self .config) envelope replica ⌝ }
-        ensures { λ r. ⌜ r ≡ hearFields self envelope replica ⌝ }
+    fn hear_fields<'a>(
+        self,
+        envelope: Envelope,
+        counts: &'a [u16; 16],
+        cells: &'a [u32; 256],
+        register: Register,
+    ) -> Heard
+        requires { ⌜ (fitsOf self ≡ true) × Passed (self .config) envelope (replicaOf (now counts) (now cells) register) ⌝ }
+        ensures { λ r. ⌜ r ≡ hearFields self envelope (replicaOf (now (counts .entry)) (now (cells .entry)) register) ⌝ }
     {
         if self.stray(envelope) {
             return self.unheard(Refusal::Stray);
@@ -49,18 +74,27 @@ impl Desk {
         if !self.timely(envelope) {
             return self.late();
         }
-        let joined = self.join(replica);
+        if lacks_lent(counts, &self.replica.ledger.counts) {
+            return self.unheard(Refusal::Clash);
+        }
+        let held = self.replica.register;
+        let joined = join_lent(
+            self.config,
+            &self.replica.ledger.counts,
+            &self.replica.ledger.cells,
+            held,
+            counts,
+            cells,
+            register,
+        );
         let verdict = joined.verdict;
-        let after = joined.replica;
         let Verdict::Accepted = verdict else {
             return self.unheard(Refusal::Clash);
         };
-        let held = self.replica;
-        let ledger = held.ledger;
-        if ledger.lacks(replica.ledger) {
-            return self.restart(after);
+        if lacks_lent(&self.replica.ledger.counts, counts) {
+            return self.restart(joined.replica);
         }
-        self.mark(after, envelope.server)
+        self.mark(joined.replica, envelope.server)
     }
 
     // Whether a message is not for this desk: anything but a reply, or a reply to another one.
@@ -82,23 +116,6 @@ impl Desk {
             return false;
         }
         envelope.round == self.round
-    }
-
-    // What this desk holds, joined with a replica: 6 too where that lacks a transfer of the desk's.
-    fn join(self, other: Replica) -> Joined
-        requires { ⌜ fitsOf self ≡ true ⌝ }
-        ensures { λ r. ⌜ r ≡ joinOf self other ⌝ }
-    {
-        let config = self.config;
-        let replica = self.replica;
-        let told = other.ledger;
-        if told.lacks(replica.ledger) {
-            return Joined {
-                verdict: Verdict::Refused(Refusal::Clash),
-                replica,
-            };
-        }
-        replica.join(config, other)
     }
 
     // A refusal, with the record as it was.

@@ -6,12 +6,14 @@ use super::record::Heard;
 use config::Config;
 use config::Decision;
 use config::Refusal;
-use ledger::Ledger;
+use ledger::quorum_lent;
 use replica::Register;
 use replica::Replica;
 ghost use Prim.Native.Nat.{_<_};
 ghost use mathlib.Core.Path.{_≡_};
 ghost use mathlib.Core.Bool.{true, false};
+ghost use mathlib.Core.List.{[]};
+ghost use Rattle.ledger.specs.Ledgers.{ledgerOf};
 ghost use Rattle.ledger.specs.Maps.{mapOf};
 ghost use Rattle.ledger.specs.Weights.{quorumOf};
 ghost use Rattle.desk.specs.Desks.{fits as fitsOf};
@@ -44,7 +46,7 @@ impl Desk {
     {
         let operation = self.operation;
         let map = marked(operation.answered, server);
-        if !quorate(self.config, joined.ledger, map) {
+        if !quorate(self.config, &joined.ledger.cells, map) {
             return self.moved(
                 joined,
                 self.round,
@@ -123,12 +125,12 @@ fn marked(map: u16, server: u8) -> u16
     map + bit as u16
 }
 
-// Whether the servers of a map are a quorum on a ledger.
-fn quorate(config: Config, ledger: Ledger, map: u16) -> bool
+// Whether the servers of a map are a quorum by the cells of a ledger.
+fn quorate(config: Config, cells: &[u32; 256], map: u16) -> bool
     requires { ⌜ mapOf config map ≡ true ⌝ }
-    ensures { λ r. ⌜ r ≡ quorumOf config ledger map ⌝ }
+    ensures { λ r. ⌜ r ≡ quorumOf config (ledgerOf [] (now (cells .entry))) map ⌝ }
 {
-    match ledger.quorum(config, map) {
+    match quorum_lent(cells, config, map) {
         Decision::Yes => true,
         Decision::No => false,
         Decision::Refused(_) => false,

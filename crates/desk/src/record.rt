@@ -3,8 +3,11 @@ use super::operation::Operation;
 use config::Config;
 use config::Refusal;
 use config::Verdict;
+use replica::Register;
 use replica::Replica;
+use replica::fits_lent;
 ghost use mathlib.Core.Path.{_≡_};
+ghost use Rattle.desk.specs.Parts.{deskOf};
 ghost use Rattle.desk.specs.Desks.{numberLawful, fits as fitsOf, freshDesk, opens as opensOf, openOf, accepted, refused as refusedOf, turned as turnedOf};
 
 #[repr(C)]
@@ -55,16 +58,17 @@ impl Desk {
     pub fn fits(self) -> bool
         ensures { λ r. ⌜ r ≡ fitsOf self ⌝ }
     {
-        if !number_lawful(self.number) {
-            return false;
-        }
-        let config = self.config;
-        let replica = self.replica;
-        if !replica.fits(config) {
-            return false;
-        }
+        let register = self.replica.register;
         let operation = self.operation;
-        operation.fits(config, self.round)
+        fits_in(
+            self.config,
+            self.number,
+            &self.replica.ledger.counts,
+            &self.replica.ledger.cells,
+            register,
+            self.round,
+            operation,
+        )
     }
 
     // A record that holds nothing and does nothing.
@@ -127,4 +131,25 @@ fn number_lawful(number: u64) -> bool
         return false;
     }
     number <= 65535
+}
+
+// The record test of the parts of a record, of which the ledger is lent as its counts and cells.
+pub(crate) fn fits_in<'a>(
+    config: Config,
+    number: u64,
+    counts: &'a [u16; 16],
+    cells: &'a [u32; 256],
+    register: Register,
+    round: u32,
+    operation: Operation,
+) -> bool
+    ensures { λ r. ⌜ r ≡ fitsOf (deskOf config number (now (counts .entry)) (now (cells .entry)) register round operation) ⌝ }
+{
+    if !number_lawful(number) {
+        return false;
+    }
+    if !fits_lent(counts, cells, register, config) {
+        return false;
+    }
+    operation.fits(config, round)
 }

@@ -5,16 +5,17 @@ use native.Mathlib.Omega.{arith}
 use mathlib.Core.Path.{_≡_, refl, ap, sym, _∙_}
 use mathlib.Core.List.{List, []}
 use lib.ListN.{getD}
-use Rattle.quorums.specs.Sum.{sum}
-use Rattle.quorums.proofs.Sums.{sum-next, sum-same}
+use mathlib.Core.Bool.{Bool}
+use Rattle.quorums.specs.Sum.{sum, sumIn}
+use Rattle.quorums.proofs.Sums.{sum-next, sum-same, sumIn-same}
 use Rattle.quorums.specs.Accounts.{held}
 use Rattle.config.specs.Cluster.{startOf}
 use Rattle.config.specs.declared.cluster.Config.{Config}
 use Rattle.ledger.specs.declared.ledger.Ledger.{Ledger}
 use Rattle.ledger.specs.declared.balance.Balance.{Balance}
 use Rattle.ledger.specs.Ledgers.{ledgerOf, lineOf, givenOf, receivedOf, accountsOf}
-use Rattle.ledger.specs.Weights.{weightOf}
-use Rattle.ledger.specs.Checks.{aboveFloor}
+use Rattle.ledger.specs.Weights.{weightOf, marginOf, quorumOf, marginAnswer, quorumAnswer}
+use Rattle.ledger.specs.Checks.{aboveFloor, floorAnswer}
 use Rattle.ledger.specs.Balances.{Sides, heldIn, givenIn}
 
 pub line-none : (cells : List ℕ) (from step : ℕ) → lineOf cells from step 0 ≡ 0
@@ -52,6 +53,17 @@ sides-of c l i most b s =
       given-small = s .given-small;
     }
 
+-- and so are the sums of both over a set of servers
+pub sides-in : (c : Config) (l : Ledger) (n most : ℕ) (q : ℕ → Bool) (b : Balance)
+    → Sides (sumIn n q (heldIn c (l .cells))) (sumIn n q (givenIn (l .cells))) most b → Sides (sumIn n q (held (accountsOf c l))) (sumIn n q (givenOf l)) most b
+sides-in c l n most q b s =
+    record {
+      held-is = s .held-is ∙ sumIn-same n q _ _ (λ i h m. held-in c l i);
+      given-is = s .given-is ∙ sumIn-same n q _ _ (λ i h m. sym (given-line l i));
+      held-small = s .held-small;
+      given-small = s .given-small;
+    }
+
 -- weights are about cells alone: a ledger with the same cells has the same accounts
 abbrev pub inCells : List ℕ → Ledger
 inCells cells = ledgerOf [] cells
@@ -63,6 +75,18 @@ accounts-cells c l = refl
 pub given-cells : (l : Ledger) → givenOf (inCells (l .cells)) ≡ givenOf l
 unfolding givenOf
 given-cells l = refl
+
+pub floor-cells : (c : Config) (l : Ledger) → floorAnswer c (inCells (l .cells)) ≡ floorAnswer c l
+unfolding floorAnswer aboveFloor weightOf receivedOf givenOf
+floor-cells c l = refl
+
+pub margin-cells : (c : Config) (l : Ledger) (m : ℕ) → marginAnswer c (inCells (l .cells)) m ≡ marginAnswer c l m
+unfolding marginAnswer marginOf receivedOf givenOf
+margin-cells c l m = refl
+
+pub quorum-cells : (c : Config) (l : Ledger) (m : ℕ) → quorumAnswer c (inCells (l .cells)) m ≡ quorumAnswer c l m
+unfolding quorumAnswer quorumOf receivedOf givenOf
+quorum-cells c l m = refl
 
 pub above-cells : (c : Config) (l : Ledger) → aboveFloor c (inCells (l .cells)) ≡ aboveFloor c l
 unfolding aboveFloor weightOf receivedOf givenOf

@@ -125,13 +125,13 @@ joined-self a t =
 
 -- joining commutes
 -- where b has nothing more, a is the union
-pub joined-has : (a b : Ledger) → Typed a → lacks a b ≡ false → joined a b ≡ a
+pub joined-has : (a b : Ledger) → length (a .counts) ≡ 16 → length (a .cells) ≡ 256 → lacks a b ≡ false → joined a b ≡ a
 unfolding joined lacks
-joined-has a b t e =
+joined-has a b counted celled e =
     let has = all-each 16 (hasAt a b) (not-false _ e) in
     same-ledger _ _
-    (sym (is-table 16 (largerAt a b) (a .counts) (t .counts-length) (λ i l. omega (arith, leb-true (countOf b i) (countOf a i) (has i l)))))
-    (sym (is-table 256 (laterAt a b) (a .cells) (t .cells-length) (λ k l. sym (later-first _ _ _ _ (leb-true (countOf b (k / 16)) (countOf a (k / 16)) (has (k / 16) (omega arith)))))))
+    (sym (is-table 16 (largerAt a b) (a .counts) counted (λ i l. omega (arith, leb-true (countOf b i) (countOf a i) (has i l)))))
+    (sym (is-table 256 (laterAt a b) (a .cells) celled (λ k l. sym (later-first _ _ _ _ (leb-true (countOf b (k / 16)) (countOf a (k / 16)) (has (k / 16) (omega arith)))))))
 
 pub joins-comm : (a b : Ledger) → joins a b ≡ joins b a
 unfolding joins

@@ -1,9 +1,7 @@
 // Both sides of a weight, as plain numbers: signed numbers are made only where an answer is one.
-use super::ledger::Ledger;
 use super::ledger::line;
 use super::map::names;
 use config::Config;
-use config::Number;
 ghost use mathlib.Core.Path.{_≡_};
 ghost use mathlib.Core.Bool.{true, cond};
 ghost use Prim.Native.Nat.{_<_};
@@ -11,9 +9,7 @@ ghost use lib.ListN.{length};
 ghost use Rattle.quorums.specs.Difference.{difference as differenceOf};
 ghost use Rattle.config.specs.Cluster.{serverOf, validOf};
 ghost use Rattle.ledger.specs.Balances.{Sides, heldIn, givenIn};
-ghost use Rattle.ledger.specs.Ledgers.{accountsOf, givenOf};
 ghost use Rattle.ledger.specs.Maps.{named};
-ghost use Rattle.quorums.specs.Accounts.{held};
 ghost use Rattle.quorums.specs.Sum.{sumIn};
 
 // What servers have before their gifts are taken off, and what they gave.
@@ -22,40 +18,34 @@ pub(crate) struct Balance {
     pub given: u64,
 }
 
-impl Ledger {
-    // The balance of the servers that a map names together.
-    pub(crate) fn balance_in(self, config: Config, map: u16) -> Balance
-        requires { ⌜ validOf config ≡ true ⌝ }
-        ensures { λ r. ⌜ Sides (sumIn (config .n) (named map) (held (accountsOf config self))) (sumIn (config .n) (named map) (givenOf self)) 1099511883520 r ⌝ }
-    {
-        let cells = self.cells;
-        let n = config.n;
-        let mut held: u64 = 0;
-        let mut given: u64 = 0;
-        let mut i: u64 = 0;
-        while i < n {
-            let b = balance_named(&cells, config, map, i);
-            held += b.held;
-            given += b.given;
-            i += 1;
-        }
-        Balance { held, given }
+// The balance of the servers that a map names together, by the 256 cells of a ledger. They are lent, since a copy of a ledger takes longer than the sums.
+pub(crate) fn balance_in(cells: &[u32], config: Config, map: u16) -> Balance
+    requires { ⌜ (length (now cells) ≡ 256) × (validOf config ≡ true) ⌝ }
+    ensures { λ r. ⌜ Sides (sumIn (config .n) (named map) (heldIn config (now (cells .entry)))) (sumIn (config .n) (named map) (givenIn (now (cells .entry)))) 1099511883520 r ⌝ }
+{
+    let n = config.n;
+    let mut held: u64 = 0;
+    let mut given: u64 = 0;
+    let mut i: u64 = 0;
+    while i < n {
+        let b = balance_named(cells, config, map, i);
+        held += b.held;
+        given += b.given;
+        i += 1;
     }
+    Balance { held, given }
 }
 
-// The balance of one server, by the 256 cells of a ledger. They are lent, since a copy of a ledger takes longer than the sums.
+// The balance of one server.
 pub(crate) fn balance_of(cells: &[u32], config: Config, server: u64) -> Balance
     requires { ⌜ (length (now cells) ≡ 256) × (serverOf config server ≡ true) ⌝ }
     ensures { λ r. ⌜ Sides (heldIn config (now (cells .entry)) server) (givenIn (now (cells .entry)) server) 68719492720 r ⌝ }
 {
     let i = server as usize;
-    let Number::Value(start) = config.start(server) else {
-        return Balance { held: 0, given: 0 };
-    };
     let received = line(cells, i, 16);
     let given = line(cells, i * 16, 1);
     Balance {
-        held: start + received,
+        held: config.start_at(server) + received,
         given,
     }
 }

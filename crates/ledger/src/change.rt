@@ -1,5 +1,7 @@
 // One transfer more in a ledger (paper 01, "Server": Transfer).
 use super::balance::balance_of;
+use super::check::bounds;
+use super::check::floor;
 use super::ledger::Changed;
 use super::ledger::Ledger;
 use config::Config;
@@ -27,10 +29,10 @@ impl Ledger {
         if !config.has(giver) {
             return self.refused(Refusal::BadHouse);
         }
-        let Verdict::Accepted = self.check_bounds(config) else {
+        let Verdict::Accepted = bounds(&self.counts, &self.cells, config) else {
             return self.refused(Refusal::BadHouse);
         };
-        let Verdict::Accepted = self.check_floor(config) else {
+        let Verdict::Accepted = floor(&self.cells, config) else {
             return self.refused(Refusal::BadHouse);
         };
         if !lawful(config, giver, taker, amount) {

@@ -10,10 +10,12 @@ use config::Refusal;
 use config::Verdict;
 ghost use mathlib.Core.Path.{_≡_};
 ghost use mathlib.Core.Bool.{true};
+ghost use mathlib.Core.List.{[]};
 ghost use Prim.Native.Nat.{_<_};
 ghost use lib.ListN.{length};
 ghost use Rattle.quorums.specs.Sum.{all};
 ghost use Rattle.config.specs.Cluster.{validOf, leastOf};
+ghost use Rattle.ledger.specs.Ledgers.{ledgerOf};
 ghost use Rattle.ledger.specs.Checks.{cellFits, serverFits, totalFits, rowFits, aboveFloor, boundsAnswer, floorAnswer, checkAnswer};
 
 impl Ledger {
@@ -21,89 +23,109 @@ impl Ledger {
     pub fn check(self, config: Config) -> Verdict
         ensures { λ r. ⌜ r ≡ checkAnswer config self ⌝ }
     {
-        match self.check_bounds(config) {
-            Verdict::Accepted => self.check_floor(config),
-            Verdict::Refused(r) => Verdict::Refused(r),
-        }
+        check_lent(&self.counts, &self.cells, config)
     }
 
     // Whether every count and cell is within range: 1 for the cluster, then 4.
     pub fn check_bounds(self, config: Config) -> Verdict
         ensures { λ r. ⌜ r ≡ boundsAnswer config self ⌝ }
     {
-        if !config.valid() {
-            return Verdict::Refused(Refusal::BadHouse);
-        }
-        if !self.cells_fit(config.n) {
-            return Verdict::Refused(Refusal::OddField);
-        }
-        if !self.rows_fit() {
-            return Verdict::Refused(Refusal::OddField);
-        }
-        Verdict::Accepted
+        bounds(&self.counts, &self.cells, config)
     }
 
     // Whether every weight is above the floor: 1 for the cluster, then 5.
     pub fn check_floor(self, config: Config) -> Verdict
         ensures { λ r. ⌜ r ≡ floorAnswer config self ⌝ }
     {
-        let Number::Value(least) = config.least() else {
-            return Verdict::Refused(Refusal::BadHouse);
-        };
-        if !self.above_floor(config, least) {
-            return Verdict::Refused(Refusal::Light);
-        }
-        Verdict::Accepted
+        floor(&self.cells, config)
     }
+}
 
-    // Whether every cell may hold what it holds.
-    fn cells_fit(self, n: u64) -> bool
-        ensures { λ r. ⌜ r ≡ all 256 (cellFits n self) ⌝ }
-    {
-        let cells = self.cells;
-        let mut i: usize = 0;
-        while i < 16 {
-            if !server_fits(&cells, n, i) {
-                return false;
-            }
-            i += 1;
-        }
-        true
+// `check` of a ledger that is lent as its counts and cells, wherever it lies: a copy of it would take as long as the test.
+pub fn check_lent<'a>(counts: &'a [u16; 16], cells: &'a [u32; 256], config: Config) -> Verdict
+    ensures { λ r. ⌜ r ≡ checkAnswer config (ledgerOf (now (counts .entry)) (now (cells .entry))) ⌝ }
+{
+    match bounds(counts, cells, config) {
+        Verdict::Accepted => floor(cells, config),
+        Verdict::Refused(r) => Verdict::Refused(r),
     }
+}
 
-    // Whether every row's total fits its count.
-    fn rows_fit(self) -> bool
-        ensures { λ r. ⌜ r ≡ all 16 (rowFits self) ⌝ }
-    {
-        let counts = self.counts;
-        let cells = self.cells;
-        let mut i: usize = 0;
-        while i < 16 {
-            if !total_fits(counts[i], line(&cells, i * 16, 1)) {
-                return false;
-            }
-            i += 1;
-        }
-        true
+pub(crate) fn bounds<'a>(counts: &'a [u16], cells: &'a [u32], config: Config) -> Verdict
+    requires { ⌜ (length (now counts) ≡ 16) × (length (now cells) ≡ 256) ⌝ }
+    ensures { λ r. ⌜ r ≡ boundsAnswer config (ledgerOf (now (counts .entry)) (now (cells .entry))) ⌝ }
+{
+    if !config.valid() {
+        return Verdict::Refused(Refusal::BadHouse);
     }
+    if !cells_fit(cells, config.n) {
+        return Verdict::Refused(Refusal::OddField);
+    }
+    if !rows_fit(counts, cells) {
+        return Verdict::Refused(Refusal::OddField);
+    }
+    Verdict::Accepted
+}
 
-    // Whether no server of a valid cluster has less than the least weight above the floor.
-    fn above_floor(self, config: Config, least: u64) -> bool
-        requires { ⌜ (validOf config ≡ true) × (least ≡ leastOf config) ⌝ }
-        ensures { λ r. ⌜ r ≡ aboveFloor config self ⌝ }
-    {
-        let cells = self.cells;
-        let n = config.n;
-        let mut i: u64 = 0;
-        while i < n {
-            let b = balance_of(&cells, config, i);
-            if b.held < b.given + least {
-                return false;
-            }
-            i += 1;
-        }
-        true
+// The floor is a matter of the cells alone.
+pub(crate) fn floor(cells: &[u32], config: Config) -> Verdict
+    requires { ⌜ length (now cells) ≡ 256 ⌝ }
+    ensures { λ r. ⌜ r ≡ floorAnswer config (ledgerOf [] (now (cells .entry))) ⌝ }
+{
+    let Number::Value(least) = config.least() else {
+        return Verdict::Refused(Refusal::BadHouse);
+    };
+    if !above_floor(cells, config, least) {
+        return Verdict::Refused(Refusal::Light);
     }
+    Verdict::Accepted
+}
+
+// Whether every cell may hold what it holds.
+fn cells_fit(cells: &[u32], n: u64) -> bool
+    requires { ⌜ length (now cells) ≡ 256 ⌝ }
+    ensures { λ r. ⌜ r ≡ all 256 (cellFits n (ledgerOf [] (now (cells .entry)))) ⌝ }
+{
+    let mut i: usize = 0;
+    while i < 16 {
+        if !server_fits(cells, n, i) {
+            return false;
+        }
+        i += 1;
+    }
+    true
+}
+
+// Whether every row's total fits its count.
+fn rows_fit(counts: &[u16], cells: &[u32]) -> bool
+    requires { ⌜ (length (now counts) ≡ 16) × (length (now cells) ≡ 256) ⌝ }
+    ensures { λ r. ⌜ r ≡ all 16 (rowFits (ledgerOf (now (counts .entry)) (now (cells .entry)))) ⌝ }
+{
+    let mut i: usize = 0;
+    while i < 16 {
+        if !total_fits(counts[i], line(cells, i * 16, 1)) {
+            return false;
+        }
+        i += 1;
+    }
+    true
+}
+
+// Whether no server of a valid cluster has less than the least weight above the floor.
+fn above_floor(cells: &[u32], config: Config, least: u64) -> bool
+    requires { ⌜ (length (now cells) ≡ 256) × (validOf config ≡ true) × (least ≡ leastOf config) ⌝ }
+    ensures { λ r. ⌜ r ≡ aboveFloor config (ledgerOf [] (now (cells .entry))) ⌝ }
+{
+    let n = config.n;
+    let mut i: u64 = 0;
+    while i < n {
+        let b = balance_of(cells, config, i);
+        if b.held < b.given + least {
+            return false;
+        }
+        i += 1;
+    }
+    true
 }
 
 // Whether the cells of one server's row and column may hold what they hold: it gave itself nothing, and where there is no such server, it gave and

@@ -1,4 +1,5 @@
 // The union of what two parties know (paper 01, "Sheets": two sheets join), and how two ledgers compare.
+use super::check::floor;
 use super::ledger::Changed;
 use super::ledger::Ledger;
 use config::Config;
@@ -20,60 +21,30 @@ impl Ledger {
     pub fn join(self, other: Ledger) -> Changed
         ensures { λ r. ⌜ r ≡ joinAnswer self other ⌝ }
     {
-        let counts = self.counts;
-        let cells = self.cells;
-        let other_counts = other.counts;
-        let other_cells = other.cells;
-        if !joins(&counts, &cells, &other_counts, &other_cells) {
-            return self.refused(Refusal::Clash);
-        }
-        if !self.lacks(other) {
-            return Changed {
-                verdict: Verdict::Accepted,
-                ledger: self,
-            };
-        }
-        let larger = larger_counts(&counts, &other_counts);
-        let later = later_cells(&counts, &cells, &other_counts, &other_cells);
-        Changed {
-            verdict: Verdict::Accepted,
-            ledger: Ledger {
-                counts: larger,
-                cells: later,
-            },
-        }
+        join_lent(&self.counts, &self.cells, &other.counts, &other.cells)
     }
 
     // The same, and 6 too where a weight of both together is not above the floor; 1 for the cluster.
     pub fn merge(self, config: Config, other: Ledger) -> Changed
         ensures { λ r. ⌜ r ≡ mergeAnswer config self other ⌝ }
     {
-        if !config.valid() {
-            return self.refused(Refusal::BadHouse);
-        }
-        let joined = self.join(other);
-        let verdict = joined.verdict;
-        let ledger = joined.ledger;
-        let Verdict::Accepted = verdict else {
-            return self.refused(Refusal::Clash);
-        };
-        let Verdict::Accepted = ledger.check_floor(config) else {
-            return self.refused(Refusal::Clash);
-        };
-        Changed {
-            verdict: Verdict::Accepted,
-            ledger,
-        }
+        merge_lent(
+            config,
+            &self.counts,
+            &self.cells,
+            &other.counts,
+            &other.cells,
+        )
     }
 
     // Whether both ledgers are the same: neither lacks a transfer of the other, and their rows agree.
     pub fn equal(self, other: Ledger) -> bool
         ensures { λ r. ⌜ r ≡ equalOf self other ⌝ }
     {
-        if self.lacks(other) {
+        if lacks_lent(&self.counts, &other.counts) {
             return false;
         }
-        if other.lacks(self) {
+        if lacks_lent(&other.counts, &self.counts) {
             return false;
         }
         joins(&self.counts, &self.cells, &other.counts, &other.cells)
@@ -83,17 +54,75 @@ impl Ledger {
     pub fn lacks(self, other: Ledger) -> bool
         ensures { λ r. ⌜ r ≡ lacksOf self other ⌝ }
     {
-        let counts = self.counts;
-        let other_counts = other.counts;
-        let mut i: usize = 0;
-        while i < 16 {
-            if counts[i] < other_counts[i] {
-                return true;
-            }
-            i += 1;
-        }
-        false
+        lacks_lent(&self.counts, &other.counts)
     }
+}
+
+// `join` of two ledgers that are lent as their counts and cells, wherever they lie.
+fn join_lent<'a, 'b>(
+    counts: &'a [u16; 16],
+    cells: &'a [u32; 256],
+    other_counts: &'b [u16; 16],
+    other_cells: &'b [u32; 256],
+) -> Changed
+    ensures { λ r. ⌜ r ≡ joinAnswer (ledgerOf (now (counts .entry)) (now (cells .entry))) (ledgerOf (now («other_counts» .entry)) (now («other_cells» .entry))) ⌝ }
+{
+    if !joins(counts, cells, other_counts, other_cells) {
+        return Ledger::of(counts, cells).refused(Refusal::Clash);
+    }
+    if !lacks_lent(counts, other_counts) {
+        return Changed {
+            verdict: Verdict::Accepted,
+            ledger: Ledger::of(counts, cells),
+        };
+    }
+    let larger = larger_counts(counts, other_counts);
+    let later = later_cells(counts, cells, other_counts, other_cells);
+    Changed {
+        verdict: Verdict::Accepted,
+        ledger: Ledger {
+            counts: larger,
+            cells: later,
+        },
+    }
+}
+
+// `merge` of two ledgers that are lent.
+pub fn merge_lent<'a, 'b>(
+    config: Config,
+    counts: &'a [u16; 16],
+    cells: &'a [u32; 256],
+    other_counts: &'b [u16; 16],
+    other_cells: &'b [u32; 256],
+) -> Changed
+    ensures { λ r. ⌜ r ≡ mergeAnswer config (ledgerOf (now (counts .entry)) (now (cells .entry))) (ledgerOf (now («other_counts» .entry)) (now («other_cells» .entry))) ⌝ }
+{
+    if !config.valid() {
+        return Ledger::of(counts, cells).refused(Refusal::BadHouse);
+    }
+    let joined = join_lent(counts, cells, other_counts, other_cells);
+    let verdict = joined.verdict;
+    let Verdict::Accepted = verdict else {
+        return joined;
+    };
+    let Verdict::Accepted = floor(&joined.ledger.cells, config) else {
+        return Ledger::of(counts, cells).refused(Refusal::Clash);
+    };
+    joined
+}
+
+// `lacks` of two ledgers whose counts are lent.
+pub fn lacks_lent(counts: &[u16; 16], other_counts: &[u16; 16]) -> bool
+    ensures { λ r. ⌜ r ≡ lacksOf (ledgerOf (now (counts .entry)) []) (ledgerOf (now («other_counts» .entry)) []) ⌝ }
+{
+    let mut i: usize = 0;
+    while i < 16 {
+        if counts[i] < other_counts[i] {
+            return true;
+        }
+        i += 1;
+    }
+    false
 }
 
 // Whether rows with equal counts are equal, and no cell of a later row is smaller. Ledgers are lent as their counts and cells, since a copy of one takes

@@ -7,8 +7,12 @@ mod ledger;
 mod map;
 mod weight;
 
+pub use check::check_lent;
 pub use check::total_fits;
+pub use join::lacks_lent;
+pub use join::merge_lent;
 pub use ledger::Changed;
 pub use ledger::Ledger;
 pub use map::count_named;
 pub use map::within;
+pub use weight::quorum_lent;

@@ -1,4 +1,5 @@
 // Weights, the margin of a map, and quorums (paper 01, "Sheets").
+use super::balance::balance_in;
 use super::balance::balance_of;
 use super::balance::difference;
 use super::ledger::Ledger;
@@ -10,6 +11,9 @@ use config::Number;
 use config::Refusal;
 use config::Signed;
 ghost use mathlib.Core.Path.{_≡_};
+ghost use mathlib.Core.List.{[]};
+ghost use lib.ListN.{length};
+ghost use Rattle.ledger.specs.Ledgers.{ledgerOf};
 ghost use Rattle.ledger.specs.Weights.{givenAnswer, receivedAnswer, weightAnswer, allAnswer, marginAnswer, quorumAnswer};
 
 impl Ledger {
@@ -20,9 +24,8 @@ impl Ledger {
         if !config.has(server) {
             return Number::Refused(Refusal::BadHouse);
         }
-        let cells = self.cells;
         let i = server as usize;
-        Number::Value(line(&cells, i * 16, 1))
+        Number::Value(line(&self.cells, i * 16, 1))
     }
 
     // What a server received in all.
@@ -32,9 +35,8 @@ impl Ledger {
         if !config.has(server) {
             return Number::Refused(Refusal::BadHouse);
         }
-        let cells = self.cells;
         let i = server as usize;
-        Number::Value(line(&cells, i, 16))
+        Number::Value(line(&self.cells, i, 16))
     }
 
     // The weight of a server: start + received − given. It is negative where a ledger says that more was given than was there.
@@ -44,8 +46,7 @@ impl Ledger {
         if !config.has(server) {
             return Signed::Refused(Refusal::BadHouse);
         }
-        let cells = self.cells;
-        let b = balance_of(&cells, config, server);
+        let b = balance_of(&self.cells, config, server);
         Signed::Value(difference(b.held, b.given))
     }
 
@@ -56,7 +57,7 @@ impl Ledger {
         if !config.valid() {
             return Signed::Refused(Refusal::BadHouse);
         }
-        let b = self.balance_in(config, 65535);
+        let b = balance_in(&self.cells, config, 65535);
         Signed::Value(difference(b.held, b.given))
     }
 
@@ -64,26 +65,41 @@ impl Ledger {
     pub fn margin(self, config: Config, map: u16) -> Signed
         ensures { λ r. ⌜ r ≡ marginAnswer config self map ⌝ }
     {
-        if !within(config, map) {
-            return Signed::Refused(Refusal::BadHouse);
-        }
-        let Number::Value(total) = config.total() else {
-            return Signed::Refused(Refusal::BadHouse);
-        };
-        let b = self.balance_in(config, map);
-        Signed::Value(difference(2 * b.held, 2 * b.given + total))
+        margin_in(&self.cells, config, map)
     }
 
     // Whether the servers that a map names are a quorum: whether the margin is above zero.
     pub fn quorum(self, config: Config, map: u16) -> Decision
         ensures { λ r. ⌜ r ≡ quorumAnswer config self map ⌝ }
     {
-        let Signed::Value(margin) = self.margin(config, map) else {
-            return Decision::Refused(Refusal::BadHouse);
-        };
-        if 0 < margin {
-            return Decision::Yes;
-        }
-        Decision::No
+        quorum_lent(&self.cells, config, map)
     }
+}
+
+// `quorum` of a ledger whose cells are lent, wherever it lies: a copy of it would take longer than the sums.
+pub fn quorum_lent(cells: &[u32; 256], config: Config, map: u16) -> Decision
+    ensures { λ r. ⌜ r ≡ quorumAnswer config (ledgerOf [] (now (cells .entry))) map ⌝ }
+{
+    let Signed::Value(margin) = margin_in(cells, config, map) else {
+        return Decision::Refused(Refusal::BadHouse);
+    };
+    if 0 < margin {
+        return Decision::Yes;
+    }
+    Decision::No
+}
+
+// The margin is a matter of the cells alone.
+fn margin_in(cells: &[u32], config: Config, map: u16) -> Signed
+    requires { ⌜ length (now cells) ≡ 256 ⌝ }
+    ensures { λ r. ⌜ r ≡ marginAnswer config (ledgerOf [] (now (cells .entry))) map ⌝ }
+{
+    if !within(config, map) {
+        return Signed::Refused(Refusal::BadHouse);
+    }
+    let Number::Value(total) = config.total() else {
+        return Signed::Refused(Refusal::BadHouse);
+    };
+    let b = balance_in(cells, config, map);
+    Signed::Value(difference(2 * b.held, 2 * b.given + total))
 }

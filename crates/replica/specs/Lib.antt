@@ -2,3 +2,4 @@
 pub mod Values
 pub mod Registers
 pub mod Replicas
+pub mod Parts

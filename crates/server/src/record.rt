@@ -2,8 +2,11 @@
 use config::Config;
 use config::Refusal;
 use config::Verdict;
+use replica::Register;
 use replica::Replica;
+use replica::fits_lent;
 ghost use mathlib.Core.Path.{_≡_};
+ghost use Rattle.server.specs.Parts.{serverOf as serverIn};
 ghost use Rattle.server.specs.Servers.{fits as fitsOf, blankServer, openOf, refused as refusedOf};
 
 #[repr(C)]
@@ -43,12 +46,14 @@ impl Server {
     pub fn fits(self) -> bool
         ensures { λ r. ⌜ r ≡ fitsOf self ⌝ }
     {
-        let config = self.config;
-        if !config.has(self.number) {
-            return false;
-        }
-        let replica = self.replica;
-        replica.fits(config)
+        let register = self.replica.register;
+        fits_in(
+            self.config,
+            self.number,
+            &self.replica.ledger.counts,
+            &self.replica.ledger.cells,
+            register,
+        )
     }
 
     // The record with every field 0, which stands beside a refusal to open one.
@@ -71,4 +76,20 @@ impl Server {
             server: self,
         }
     }
+}
+
+// The record test of the parts of a record, of which the ledger is lent as its counts and cells.
+pub(crate) fn fits_in<'a>(
+    config: Config,
+    number: u64,
+    counts: &'a [u16; 16],
+    cells: &'a [u32; 256],
+    register: Register,
+) -> bool
+    ensures { λ r. ⌜ r ≡ fitsOf (serverIn config number (now (counts .entry)) (now (cells .entry)) register) ⌝ }
+{
+    if !config.has(number) {
+        return false;
+    }
+    fits_lent(counts, cells, register, config)
 }

@@ -1,10 +1,11 @@
 // A server tells what it holds (paper 01, "Server": Share).
 use super::record::Server;
+use super::record::fits_in;
 use config::Number;
 use config::Refusal;
 use message::Envelope;
 use message::SHARE;
-use writer::write;
+use writer::write_lent;
 ghost use mathlib.Core.Path.{_≡_};
 ghost use Rattle.server.specs.Shares.{shareOf};
 
@@ -13,11 +14,18 @@ impl Server {
     pub fn share(self, out: &mut [u8], at: usize) -> Number
         ensures { λ r. ⌜ (r ≡ shareOf self (now (out .entry)) at .answer) × (now (out .exit) ≡ shareOf self (now (out .entry)) at .out) ⌝ }
     {
-        if !self.fits() {
+        let held = self.replica.register;
+        if !fits_in(
+            self.config,
+            self.number,
+            &self.replica.ledger.counts,
+            &self.replica.ledger.cells,
+            held,
+        ) {
             return Number::Refused(Refusal::BadHouse);
         }
         let config = self.config;
-        let replica = self.replica;
+        let register = self.replica.register;
         let envelope = Envelope {
             kind: SHARE,
             server: self.number as u8,
@@ -25,6 +33,14 @@ impl Server {
             round: 0,
             note: 0,
         };
-        write(config, envelope, replica, out, at)
+        write_lent(
+            config,
+            envelope,
+            &self.replica.ledger.counts,
+            &self.replica.ledger.cells,
+            register,
+            out,
+            at,
+        )
     }
 }

@@ -15,12 +15,11 @@ impl Server {
     {
         let config = self.config;
         let number = self.number;
-        let replica = self.replica;
-        let register = replica.register;
+        let register = self.replica.register;
         if !register.fits(config) {
             return self.refused(Refusal::BadHouse);
         }
-        let ledger = replica.ledger;
+        let ledger = self.replica.ledger;
         let changed = ledger.add(config, number, taker, amount);
         let verdict = changed.verdict;
         let ledger = changed.ledger;

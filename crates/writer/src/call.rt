@@ -8,8 +8,10 @@ use config::Number;
 use config::Refusal;
 use config::Verdict;
 use message::Envelope;
+use replica::Register;
 use replica::Replica;
 ghost use mathlib.Core.Path.{_≡_};
+ghost use Rattle.replica.specs.Parts.{replicaOf};
 ghost use Rattle.message.specs.Answers.{writeOf};
 
 // Writes a message into a buffer from a place on, and hands back the place after it. Refused are what the reader would refuse, by its number,
@@ -23,11 +25,34 @@ pub fn write(
 ) -> Number
     ensures { λ r. ⌜ (r ≡ writeOf config envelope replica (now (out .entry)) at .answer) × (now (out .exit) ≡ writeOf config envelope replica (now (out .entry)) at .out) ⌝ }
 {
-    if let Verdict::Refused(r) = fault(config, envelope, replica) {
+    let register = replica.register;
+    write_lent(
+        config,
+        envelope,
+        &replica.ledger.counts,
+        &replica.ledger.cells,
+        register,
+        out,
+        at,
+    )
+}
+
+// The same of a replica whose ledger is lent as its counts and cells, wherever it lies: it is not copied.
+pub fn write_lent<'a>(
+    config: Config,
+    envelope: Envelope,
+    counts: &'a [u16; 16],
+    cells: &'a [u32; 256],
+    register: Register,
+    out: &mut [u8],
+    at: usize,
+) -> Number
+    ensures { λ r. ⌜ (r ≡ writeOf config envelope (replicaOf (now (counts .entry)) (now (cells .entry)) register) (now (out .entry)) at .answer) × (now (out .exit) ≡ writeOf config envelope (replicaOf (now (counts .entry)) (now (cells .entry)) register) (now (out .entry)) at .out) ⌝ }
+{
+    if let Verdict::Refused(r) = fault(config, envelope, counts, cells, register) {
         return Number::Refused(r);
     }
-    let register = replica.register;
-    let rows = mark_rows(&replica.ledger.counts, &replica.ledger.cells);
+    let rows = mark_rows(counts, cells);
     let plan = measure(config, envelope, register, rows.map, rows.bytes);
     if out.len() < at {
         return Number::Refused(Refusal::Narrow);
@@ -40,8 +65,8 @@ pub fn write(
         config,
         envelope,
         register,
-        &replica.ledger.counts,
-        &replica.ledger.cells,
+        counts,
+        cells,
         plan.map,
         rows,
     );

@@ -2,9 +2,11 @@
 use config::Config;
 use config::Refusal;
 use config::Verdict;
+use ledger::check_lent;
 use message::Envelope;
-use replica::Replica;
+use replica::Register;
 ghost use mathlib.Core.Path.{_≡_};
+ghost use Rattle.replica.specs.Parts.{replicaOf};
 ghost use Rattle.message.specs.Answers.{verdictOf};
 ghost use Rattle.message.specs.Faults.{kindFits, faultOf};
 
@@ -28,11 +30,15 @@ pub(crate) fn kind_fits(kind: u8, desk: u16, round: u32, note: u32) -> bool
 }
 
 // The reader's verdict.
-pub(crate) fn fault(config: Config, envelope: Envelope, replica: Replica) -> Verdict
-    ensures { λ r. ⌜ r ≡ verdictOf (faultOf config envelope replica) ⌝ }
+pub(crate) fn fault<'a>(
+    config: Config,
+    envelope: Envelope,
+    counts: &'a [u16; 16],
+    cells: &'a [u32; 256],
+    register: Register,
+) -> Verdict
+    ensures { λ r. ⌜ r ≡ verdictOf (faultOf config envelope (replicaOf (now (counts .entry)) (now (cells .entry)) register)) ⌝ }
 {
-    let register = replica.register;
-    let ledger = replica.ledger;
     if !config.valid() {
         return Verdict::Refused(Refusal::BadHouse);
     }
@@ -51,8 +57,5 @@ pub(crate) fn fault(config: Config, envelope: Envelope, replica: Replica) -> Ver
     if !register.fits(config) {
         return Verdict::Refused(Refusal::OddField);
     }
-    match ledger.check_bounds(config) {
-        Verdict::Accepted => ledger.check_floor(config),
-        Verdict::Refused(r) => Verdict::Refused(r),
-    }
+    check_lent(counts, cells, config)
 }

@@ -7,3 +7,4 @@ mod put;
 mod whole;
 
 pub use call::write;
+pub use call::write_lent;

@@ -12,7 +12,7 @@ use Rattle.ledger.specs.Ledgers.{countOf, cellOf}
 use Rattle.ledger.specs.Checks.{bounded, aboveFloor, fits}
 use Rattle.ledger.specs.Changes.{lawful, mostCount, spares, added, giveAnswer, addAnswer}
 use Rattle.ledger.proofs.Checks.{bounds-told, bounds-refused, floor-told, floor-refused, told-ledger}
-use Rattle.ledger.proofs.Lines.{above-cells}
+use Rattle.ledger.proofs.Lines.{above-cells, floor-cells}
 use Rattle.ledger.proofs.Changes.{lawful-told}
 use Rattle.ledger.proofs.Ranges.{ledger-typed}
 use Rattle.ledger.proofs.Spared.{spared-small, spared-room, spares-cells}
@@ -24,11 +24,17 @@ use Rattle.ledger.proofs.ledger.Ledger.add.Tie as tie
 abbrev of-giver : tie.Else1 → tie.Start
 of-giver c = c .before .before
 
+abbrev checked : tie.After-bounds → tie.Else1
+checked c = c .before .before .before .before .before .before
+
 abbrev of-bounds : tie.After-enum-told → tie.Else1
-of-bounds c = c .before .before .before
+of-bounds c = checked (c .before .before)
+
+abbrev weighed : tie.After-floor → tie.After-enum-told
+weighed c = c .before .before .before .before
 
 abbrev of-floor : tie.After-enum-told3 → tie.After-enum-told
-of-floor c = c .before .before .before
+of-floor c = weighed (c .before .before)
 
 abbrev of-ledger : tie.After-enum-told3 → tie.Else1
 of-ledger c = of-bounds (of-floor c)
@@ -55,10 +61,12 @@ valid : (c : tie.Else1) → validOf (of-giver c .args .config) ≡ true
 valid c = server-valid _ _ (one-of c) .0
 
 in-bounds : (c : tie.After-enum-told) → bounded (of-giver (of-bounds c) .args .config) (of-giver (of-bounds c) .args .t1) ≡ true
-in-bounds c = bounds-told _ _ (valid (of-bounds c)) (sym (c .before .before .check-bounds .ensures) ∙ c .enum-told .given .1)
+in-bounds c = bounds-told _ _ (valid (of-bounds c)) (sym (c .before .before .bounds .ensures) ∙ c .enum-told .given .1)
 
 not-light : (c : tie.After-enum-told3) → aboveFloor (of-giver (of-ledger c) .args .config) (of-giver (of-ledger c) .args .t1) ≡ true
-not-light c = floor-told _ _ (valid (of-ledger c)) (sym (c .before .before .check-floor .ensures) ∙ c .enum-told3 .given .1)
+not-light c =
+    floor-told _ _ (valid (of-ledger c))
+    (sym (floor-cells _ (of-giver (of-ledger c) .args .t1)) ∙ sym (c .before .before .floor .ensures) ∙ c .enum-told3 .given .1)
 
 sound : (c : tie.After-enum-told3) → fits (of-giver (of-ledger c) .args .config) (of-giver (of-ledger c) .args .t1) ≡ true
 sound c = told-ledger _ _ (in-bounds (of-floor c)) (not-light c)
@@ -111,8 +119,8 @@ returns : tie.Need-returns
 unfolding addAnswer
 returns c = simp (sym (c .before .before .has .ensures) ∙ not-true _ (c .before .if1 .taken)) (c .refused .ensures)
 
-check-bounds-requires : tie.Need-check-bounds-requires
-check-bounds-requires c κs = search needs
+bounds-requires : tie.Need-bounds-requires
+bounds-requires c κs = search needs
 
 enum-told : tie.Need-enum-told
 enum-told c = search needs
@@ -127,11 +135,11 @@ returns-2 : tie.Need-returns-2
 unfolding addAnswer fits
 returns-2 c =
     let check = c .before .before .before in
-    let e = check .before in
-    simp (one-of e, bounds-refused _ _ _ (valid e) (sym (check .check-bounds .ensures) ∙ c .before .enum-told2 .given .1)) (c .refused2 .ensures)
+    let e = checked check in
+    simp (one-of e, bounds-refused _ _ _ (valid e) (sym (check .bounds .ensures) ∙ c .before .enum-told2 .given .1)) (c .refused2 .ensures)
 
-check-floor-requires : tie.Need-check-floor-requires
-check-floor-requires c κs = search needs
+floor-requires : tie.Need-floor-requires
+floor-requires c κs = search needs
 
 enum-told-3 : tie.Need-enum-told-3
 enum-told-3 c = search needs
@@ -146,9 +154,10 @@ returns-3 : tie.Need-returns-3
 unfolding addAnswer fits
 returns-3 c =
     let check = c .before .before .before in
-    let b = check .before in
+    let b = weighed check in
     let e = of-bounds b in
-    simp (one-of e, in-bounds b, floor-refused _ _ _ (valid e) (sym (check .check-floor .ensures) ∙ c .before .enum-told4 .given .1)) (c .refused3 .ensures)
+    let light = sym (floor-cells _ (of-giver e .args .t1)) ∙ sym (check .floor .ensures) ∙ c .before .enum-told4 .given .1 in
+    simp (one-of e, in-bounds b, floor-refused _ _ _ (valid e) light) (c .refused3 .ensures)
 
 lawful-requires : tie.Need-lawful-requires
 lawful-requires c κs = search needs
@@ -246,12 +255,12 @@ add-spec =
     has-requires
     refused-requires
     returns
-    check-bounds-requires
+    bounds-requires
     enum-told
     enum-told-2
     refused-requires-2
     returns-2
-    check-floor-requires
+    floor-requires
     enum-told-3
     enum-told-4
     refused-requires-3

@@ -16,18 +16,15 @@ returns : tie.Need-returns
 unfolding givenAnswer
 returns c = simp (sym (c .before .has .ensures) ∙ not-true _ (c .if1 .taken))
 
-slice-aggregate-line : tie.Need-slice-aggregate-line
-slice-aggregate-line c = search needs
-
 mul-line : tie.Need-mul-line
-mul-line c = omega (arith, server-small _ _ (sym (c .before .before .before .has .ensures) ∙ not-false _ (c .before .before .if1 .left)))
+mul-line c = omega (arith, server-small _ _ (sym (c .before .before .before .before .has .ensures) ∙ not-false _ (c .before .before .before .if1 .left)))
 
 line-requires : tie.Need-line-requires
-line-requires c κs = (search needs, omega (arith, server-small _ _ (sym (c .before .before .before .has .ensures) ∙ not-false _ (c .before .before .if1 .left))))
+line-requires c κs = (search needs, omega (arith, server-small _ _ (sym (c .before .before .before .before .has .ensures) ∙ not-false _ (c .before .before .before .if1 .left))))
 
 returns-2 : tie.Need-returns-2
 unfolding givenAnswer
-returns-2 c = simp (sym (c .before .before .before .before .has .ensures) ∙ not-false _ (c .before .before .before .if1 .left), c .line .ensures .0, given-line)
+returns-2 c = simp (sym (c .before .before .before .before .before .has .ensures) ∙ not-false _ (c .before .before .before .before .if1 .left), c .line .ensures .0, given-line)
 
 pub given-spec : {M : Type 1} → statement M
-given-spec = tie.close (tie.spec has-requires returns slice-aggregate-line mul-line line-requires returns-2)
+given-spec = tie.close (tie.spec has-requires returns mul-line line-requires returns-2)

@@ -1,72 +1,15 @@
--- `lacks` meets its contract: this ledger has the transfers of every giver before i.
-use Prim.Native.Nat.{_-_, _≤_}
-use native.Mathlib.Omega.{arith}
-use mathlib.Core.Path.{_≡_, sym, ap}
-use mathlib.Core.Bool.{true, not}
+-- `lacks` meets its contract: what a ledger lacks is a matter of its counts.
+use mathlib.Core.Path.{_∙_}
 use borrow.Author.Needs.{needs}
-use borrow.Author.Tests.{le-leb, lt-leb}
-use lib.Dec.{leb}
-use lib.ListN.{getD}
-use Rattle.quorums.specs.Sum.{all}
-use Rattle.quorums.proofs.Sums.{all-none, all-next, all-fails}
-use Rattle.ledger.specs.Joins.{hasAt}
-use Rattle.ledger.specs.Joins as J
+use Rattle.ledger.proofs.Joins.{lacks-counts}
 use Rattle.ledger.proofs.ledger.Ledger.lacks.Statement.{statement}
 use Rattle.ledger.proofs.ledger.Ledger.lacks.Tie as tie
 
-abbrev Inv-loop : tie.InvT-loop
-Inv-loop counts other-counts i₀ i = (i ≤ 16) × (all i (λ k. leb (getD other-counts k 0) (getD counts k 0)) ≡ true)
+lacks-lent-requires : tie.Need-lacks-lent-requires
+lacks-lent-requires c κs = search needs
 
-abbrev μ-loop : tie.MeasureT-loop
-μ-loop counts other-counts i₀ i = 16 - i
-
-loop-holds : tie.Need-loop-holds Inv-loop μ-loop
-loop-holds c = (omega arith, all-none _)
-
-mul-if1 : tie.Need-mul-if1 Inv-loop μ-loop
-mul-if1 c = search needs
-
-array-read-if1 : tie.Need-array-read-if1 Inv-loop μ-loop
-array-read-if1 c = search needs
-
-mul-if1-2 : tie.Need-mul-if1-2 Inv-loop μ-loop
-mul-if1-2 c = search needs
-
-array-read-if1-2 : tie.Need-array-read-if1-2 Inv-loop μ-loop
-array-read-if1-2 c = search needs
-
-returns : tie.Need-returns Inv-loop μ-loop
-unfolding J.lacks
-returns c = sym (ap not (all-fails 16 (hasAt (c .before .before .before .before .before .args .self) (c .before .before .before .before .before .args .other)) _ (c .before .loop-test .taken) (lt-leb _ _ (c .if1 .taken))))
-
-add-i : tie.Need-add-i Inv-loop μ-loop
-add-i c = search needs
-
-loop-less : tie.Need-loop-less Inv-loop μ-loop
-loop-less c = search needs
-
-loop-again : tie.Need-loop-again Inv-loop μ-loop
-loop-again c = (omega arith, all-next _ (hasAt (c .before .before .before .before .before .args .self) (c .before .before .before .before .before .args .other)) (c .before .before .loop .inv .1) (le-leb _ _ (c .if1 .left)))
-
-returns-2 : tie.Need-returns-2 Inv-loop μ-loop
-unfolding J.lacks
-returns-2 c =
-    let e : c .before .loop .i ≡ 16 = omega arith in
-    sym (ap not (rw e at (c .before .loop .inv .1)))
+returns : tie.Need-returns
+returns c = let a = c .before .before .before .before .before .args in c .lacks-lent .ensures ∙ lacks-counts (a .t1) (a .t2)
 
 pub lacks-spec : {M : Type 1} → statement M
-lacks-spec =
-    tie.close
-    (tie.spec
-    Inv-loop
-    μ-loop
-    loop-holds
-    mul-if1
-    array-read-if1
-    mul-if1-2
-    array-read-if1-2
-    returns
-    add-i
-    loop-less
-    loop-again
-    returns-2)
+lacks-spec = tie.close (tie.spec lacks-lent-requires returns)

@@ -1,101 +1,15 @@
--- `margin` meets its contract: the servers named are balanced together, twice, against W.
-use Prim.Native.Nat.{ℕ, _+_, _*_, _≤_}
-use native.Mathlib.Omega.{arith}
-use mathlib.Core.Path.{_≡_, sym, ap, _∙_}
-use mathlib.Core.Bool.{true, false}
+-- `margin` meets its contract: the margin is a matter of the cells.
+use mathlib.Core.Path.{_∙_}
 use borrow.Author.Needs.{needs}
-use borrow.Author.Tests.{not-true, not-false}
-use Rattle.config.specs.Cluster.{totalOf}
-use Rattle.config.proofs.Clusters.{total-small, total-told, total-refused}
-use Rattle.quorums.specs.Difference.{difference}
-use Rattle.config.specs.declared.answer.Signed.{Signed}
-use Rattle.ledger.specs.Maps.{mapOf}
-use Rattle.ledger.specs.Weights.{marginAnswer}
-use Rattle.ledger.proofs.Maps.{map-valid}
-use Rattle.ledger.proofs.Answers.{read-back, margin-balance}
+use Rattle.ledger.proofs.Lines.{margin-cells}
 use Rattle.ledger.proofs.ledger.Ledger.margin.Statement.{statement}
 use Rattle.ledger.proofs.ledger.Ledger.margin.Tie as tie
 
-within-requires : tie.Need-within-requires
-within-requires c κs = search needs
+margin-in-requires : tie.Need-margin-in-requires
+margin-in-requires c κs = search needs
 
 returns : tie.Need-returns
-unfolding marginAnswer
-returns c =
-    let a = c .before .before .args in
-    let out : mapOf (a .config) (a .map) ≡ false = sym (c .before .within .ensures) ∙ not-true _ (c .if1 .taken) in
-    simp out
-
-total-requires : tie.Need-total-requires
-total-requires c κs = search needs
-
-enum-known-total : tie.Need-enum-known-total
-enum-known-total c = search needs
-
-enum-told : tie.Need-enum-told
-enum-told c = search needs
-
-returns-2 : tie.Need-returns-2
-returns-2 c =
-    let m = sym (c .before .before .before .before .within .ensures) ∙ not-false _ (c .before .before .before .if1 .left) in
-    let no : false ≡ true = sym (total-refused _ _ (sym (c .before .before .total .ensures) ∙ c .enum-told .given .1)) ∙ map-valid _ _ m .0 in
-    let z : _≡_ {A = ℕ} 0 1 = cc in
-    absurd (omega arith)
-
-mapped : (c : tie.After-known-told) → mapOf (c .before .before .before .before .before .before .args .config) (c .before .before .before .before .before .before .args .map) ≡ true
-mapped c = sym (c .before .before .before .before .before .within .ensures) ∙ not-false _ (c .before .before .before .before .if1 .left)
-
-total-is : (c : tie.After-known-told) → c .before .total2 .given .0 .0 ≡ totalOf (c .before .before .before .before .before .before .args .config)
-total-is c = total-told _ _ (sym (c .before .before .before .total .ensures) ∙ c .before .total2 .given .1) .1
-
-balance-in-requires : tie.Need-balance-in-requires
-balance-in-requires c κs = map-valid _ _ (mapped c) .0
-
-mul-difference : tie.Need-mul-difference
-mul-difference c = search needs
-
-mul-difference-2 : tie.Need-mul-difference-2
-mul-difference-2 c = search needs
-
-small : (c : tie.After-struct-known2) → (c .before .before .balance-in .result .held ≤ 1099511883520) × (c .before .before .balance-in .result .given ≤ 1099511883520) × (c .before .before .before .before .total2 .given .0 .0 ≤ 16000)
-small c =
-    let known = c .before .before .before in (
-      c .before .before .balance-in .ensures .held-small,
-      c .before .before .balance-in .ensures .given-small,
-      rw (total-is known) (total-small _ (map-valid _ _ (mapped known) .0)),
-    )
-
-add-difference : tie.Need-add-difference
-add-difference c = omega (arith, small c)
-
-difference-requires : tie.Need-difference-requires
-difference-requires c κs = omega (arith, small c)
-
-returns-3 : tie.Need-returns-3
-unfolding marginAnswer
-returns-3 c =
-    let known = c .before .before .before .before in
-    let b = c .before .before .before .balance-in in
-    simp (mapped known)
-    (ap Signed.Value
-    (read-back (c .difference .result) (c .difference .ok)
-    ∙ c .difference .ensures
-    ∙ ap (λ w. difference (2 * b .result .held) (2 * b .result .given + w)) (total-is known)
-    ∙ margin-balance _ _ _ _ _ (b .ensures)))
+returns c = let a = c .before .before .before .before .args in c .margin-in .ensures ∙ margin-cells (a .config) (a .t1) (a .map)
 
 pub margin-spec : {M : Type 1} → statement M
-margin-spec =
-    tie.close
-    (tie.spec
-    within-requires
-    returns
-    total-requires
-    enum-known-total
-    enum-told
-    returns-2
-    balance-in-requires
-    mul-difference
-    mul-difference-2
-    add-difference
-    difference-requires
-    returns-3)
+margin-spec = tie.close (tie.spec margin-in-requires returns)

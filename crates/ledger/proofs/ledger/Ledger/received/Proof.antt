@@ -16,15 +16,12 @@ returns : tie.Need-returns
 unfolding receivedAnswer
 returns c = simp (sym (c .before .has .ensures) ∙ not-true _ (c .if1 .taken))
 
-slice-aggregate-line : tie.Need-slice-aggregate-line
-slice-aggregate-line c = search needs
-
 line-requires : tie.Need-line-requires
-line-requires c κs = (search needs, omega (arith, server-small _ _ (sym (c .before .before .before .has .ensures) ∙ not-false _ (c .before .before .if1 .left))))
+line-requires c κs = (search needs, omega (arith, server-small _ _ (sym (c .before .before .before .before .has .ensures) ∙ not-false _ (c .before .before .before .if1 .left))))
 
 returns-2 : tie.Need-returns-2
 unfolding receivedAnswer
-returns-2 c = simp (sym (c .before .before .before .before .has .ensures) ∙ not-false _ (c .before .before .before .if1 .left), c .line .ensures .0, received-line)
+returns-2 c = simp (sym (c .before .before .before .before .before .has .ensures) ∙ not-false _ (c .before .before .before .before .if1 .left), c .line .ensures .0, received-line)
 
 pub received-spec : {M : Type 1} → statement M
-received-spec = tie.close (tie.spec has-requires returns slice-aggregate-line line-requires returns-2)
+received-spec = tie.close (tie.spec has-requires returns line-requires returns-2)

@@ -16,11 +16,8 @@ returns : tie.Need-returns
 unfolding weightAnswer
 returns c = simp (sym (c .before .has .ensures) ∙ not-true _ (c .if1 .taken))
 
-slice-aggregate-balance-of : tie.Need-slice-aggregate-balance-of
-slice-aggregate-balance-of c = search needs
-
 balance-of-requires : tie.Need-balance-of-requires
-balance-of-requires c κs = (search needs, sym (c .before .before .before .has .ensures) ∙ not-false _ (c .before .before .if1 .left))
+balance-of-requires c κs = (search needs, sym (c .before .before .before .before .has .ensures) ∙ not-false _ (c .before .before .before .if1 .left))
 
 difference-requires : tie.Need-difference-requires
 difference-requires c κs = search needs
@@ -28,9 +25,9 @@ difference-requires c κs = search needs
 returns-2 : tie.Need-returns-2
 unfolding weightAnswer
 returns-2 c =
-    simp (sym (c .before .before .before .before .before .has .ensures) ∙ not-false _ (c .before .before .before .before .if1 .left))
-    (ap Signed.Value (read-back (c .difference .result) (c .difference .ok) ∙ c .difference .ensures ∙ weight-balance _ _ _ _ _ (sides-of _ (c .before .before .before .before .before .before .args .self) _ _ _ (c .before .balance-of .ensures))))
+    simp (sym (c .before .before .before .before .before .before .has .ensures) ∙ not-false _ (c .before .before .before .before .before .if1 .left))
+    (ap Signed.Value (read-back (c .difference .result) (c .difference .ok) ∙ c .difference .ensures ∙ weight-balance _ _ _ _ _ (sides-of _ (c .before .before .before .before .before .before .before .args .t1) _ _ _ (c .before .balance-of .ensures))))
 
 pub weight-spec : {M : Type 1} → statement M
 weight-spec =
-    tie.close (tie.spec has-requires returns slice-aggregate-balance-of balance-of-requires difference-requires returns-2)
+    tie.close (tie.spec has-requires returns balance-of-requires difference-requires returns-2)

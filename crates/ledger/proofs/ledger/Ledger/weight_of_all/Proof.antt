@@ -4,6 +4,7 @@ use borrow.Author.Needs.{needs}
 use borrow.Author.Tests.{not-true, not-false}
 use Rattle.config.specs.declared.answer.Signed.{Signed}
 use Rattle.ledger.specs.Weights.{allAnswer}
+use Rattle.ledger.proofs.Lines.{sides-in}
 use Rattle.ledger.proofs.Answers.{read-back, all-balance}
 use Rattle.ledger.proofs.ledger.Ledger.weight_of_all.Statement.{statement}
 use Rattle.ledger.proofs.ledger.Ledger.weight_of_all.Tie as tie
@@ -16,7 +17,7 @@ unfolding allAnswer
 returns c = simp (sym (c .before .valid .ensures) ∙ not-true _ (c .if1 .taken))
 
 balance-in-requires : tie.Need-balance-in-requires
-balance-in-requires c κs = sym (c .before .valid .ensures) ∙ not-false _ (c .if1 .left)
+balance-in-requires c κs = (search needs, sym (c .before .before .before .before .valid .ensures) ∙ not-false _ (c .before .before .before .if1 .left))
 
 difference-requires : tie.Need-difference-requires
 difference-requires c κs = search needs
@@ -24,8 +25,8 @@ difference-requires c κs = search needs
 returns-2 : tie.Need-returns-2
 unfolding allAnswer
 returns-2 c =
-    let v = sym (c .before .before .before .valid .ensures) ∙ not-false _ (c .before .before .if1 .left) in
-    simp v (ap Signed.Value (read-back (c .difference .result) (c .difference .ok) ∙ c .difference .ensures ∙ all-balance _ _ _ _ v (c .before .balance-in .ensures)))
+    let v = sym (c .before .before .before .before .before .before .valid .ensures) ∙ not-false _ (c .before .before .before .before .before .if1 .left) in
+    simp v (ap Signed.Value (read-back (c .difference .result) (c .difference .ok) ∙ c .difference .ensures ∙ all-balance _ _ _ _ v (sides-in _ (c .before .before .before .before .before .before .before .args .t1) _ _ _ _ (c .before .balance-in .ensures))))
 
 pub weight-of-all-spec : {M : Type 1} → statement M
 weight-of-all-spec =

@@ -1,10 +1,10 @@
--- `check_bounds` meets its contract, test by test.
+-- `bounds` meets its contract, test by test.
 use mathlib.Core.Path.{sym, _∙_}
 use borrow.Author.Needs.{needs}
 use borrow.Author.Tests.{not-true, not-false}
 use Rattle.ledger.specs.Checks.{bounded, boundsAnswer}
-use Rattle.ledger.proofs.ledger.Ledger.check_bounds.Statement.{statement}
-use Rattle.ledger.proofs.ledger.Ledger.check_bounds.Tie as tie
+use Rattle.ledger.proofs.check.bounds.Statement.{statement}
+use Rattle.ledger.proofs.check.bounds.Tie as tie
 
 valid-requires : tie.Need-valid-requires
 valid-requires c κs = search needs
@@ -31,8 +31,8 @@ returns-4 : tie.Need-returns-4
 unfolding boundsAnswer bounded
 returns-4 c = simp (sym (c .before .before .before .before .before .valid .ensures) ∙ not-false _ (c .before .before .before .before .if1 .left), sym (c .before .before .before .cells-fit .ensures) ∙ not-false _ (c .before .before .if2 .left), sym (c .before .rows-fit .ensures) ∙ not-false _ (c .if3 .left))
 
-pub check-bounds-spec : {M : Type 1} → statement M
-check-bounds-spec =
+pub bounds-spec : {M : Type 1} → statement M
+bounds-spec =
     tie.close
     (tie.spec
     valid-requires
