@@ -115,13 +115,14 @@ pub fn join_lent<'a, 'b>(
     }
     let merged = merge_lent(config, counts, cells, other_counts, other_cells);
     let verdict = merged.verdict;
+    let ledger = merged.ledger;
     let Verdict::Accepted = verdict else {
         return Joined::refused(Refusal::Clash, counts, cells, register);
     };
     Joined {
         verdict: Verdict::Accepted,
         replica: Replica {
-            ledger: merged.ledger,
+            ledger,
             register: register.higher(other_register),
         },
     }

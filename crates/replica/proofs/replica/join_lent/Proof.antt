@@ -1,4 +1,4 @@
--- `join` meets its contract: the cluster, the registers, and then the ledgers, each with its own refusal.
+-- `join_lent` meets its contract: the cluster, the registers, and then the ledgers, each with its own refusal.
 use mathlib.Core.Path.{_≡_, sym, ap₂, _∙_}
 use mathlib.Core.Bool.{true}
 use borrow.Author.Needs.{needs}
@@ -7,8 +7,8 @@ use Rattle.config.specs.Cluster.{validOf}
 use Rattle.replica.specs.Registers.{agree}
 use Rattle.replica.specs.Replicas.{joinAnswer, joinable, join, accepted}
 use Rattle.replica.proofs.Told.{merge-told, merge-refused}
-use Rattle.replica.proofs.replica.Replica.join.Statement.{statement}
-use Rattle.replica.proofs.replica.Replica.join.Tie as tie
+use Rattle.replica.proofs.replica.join_lent.Statement.{statement}
+use Rattle.replica.proofs.replica.join_lent.Tie as tie
 
 valid-requires : tie.Need-valid-requires
 valid-requires c κs = search needs
@@ -32,17 +32,20 @@ refused-requires-2 c κs = search needs
 
 returns-2 : tie.Need-returns-2
 unfolding joinAnswer joinable
-returns-2 c = simp (valid (c .before .before .before .before), sym (c .before .before .agrees .ensures) ∙ not-true _ (c .before .if2 .taken)) (c .refused2 .ensures)
+returns-2 c = simp (valid (c .before .before .before), sym (c .before .before .agrees .ensures) ∙ not-true _ (c .before .if2 .taken)) (c .refused2 .ensures)
 
 abbrev entry : tie.Else2 → tie.Start
-entry c = c .before .before .before .before .before
+entry c = c .before .before .before .before
+
+abbrev merging : tie.After-merge-lent → tie.Else1
+merging c = c .before .before .before
 
 -- the registers agree
-agreed : (c : tie.Else2) → agree (entry c .args .self .register) (entry c .args .other .register) ≡ true
+agreed : (c : tie.Else2) → agree (entry c .args .register) (entry c .args .other-register) ≡ true
 agreed c = sym (c .before .agrees .ensures) ∙ not-false _ (c .if2 .left)
 
-merge-requires : tie.Need-merge-requires
-merge-requires c κs = search needs
+merge-lent-requires : tie.Need-merge-lent-requires
+merge-lent-requires c κs = search needs
 
 enum-told : tie.Need-enum-told
 enum-told c = search needs
@@ -56,9 +59,9 @@ refused-requires-3 c κs = search needs
 returns-3 : tie.Need-returns-3
 unfolding joinAnswer joinable
 returns-3 c =
-    let v = valid (c .before .before .before .before .before .before .before .before .before) in
-    let apart = merge-refused _ _ _ _ _ v (c .before .before .before .before .merge .ensures) (c .before .enum-told2 .given .1) in
-    simp (v, agreed (c .before .before .before .before .before .before), apart) (c .refused3 .ensures)
+    let m = c .before .before .before .before in
+    let apart = merge-refused _ _ _ _ _ (valid (merging m)) (m .merge-lent .ensures) (c .before .enum-told2 .given .1) in
+    simp (valid (merging m), agreed (m .before), apart) (c .refused3 .ensures)
 
 higher-requires : tie.Need-higher-requires
 higher-requires c κs = search needs
@@ -66,12 +69,12 @@ higher-requires c κs = search needs
 returns-4 : tie.Need-returns-4
 unfolding joinAnswer joinable join
 returns-4 c =
-    let v = valid (c .before .before .before .before .before .before .before .before .before) in
-    let told = merge-told _ _ _ _ v (c .before .before .before .before .merge .ensures) (c .before .enum-told .given .1) in
-    simp (v, agreed (c .before .before .before .before .before .before), told .0, told .1) (ap₂ (λ l r. accepted (record { ledger = l; register = r })) (told .2) (c .higher .ensures))
+    let m = c .before .before .before .before in
+    let told = merge-told _ _ _ _ (valid (merging m)) (m .merge-lent .ensures) (c .before .enum-told .given .1) in
+    simp (valid (merging m), agreed (m .before), told .0, told .1) (ap₂ (λ l r. accepted (record { ledger = l; register = r })) (told .2) (c .higher .ensures))
 
-pub join-spec : {M : Type 1} → statement M
-join-spec =
+pub join-lent-spec : {M : Type 1} → statement M
+join-lent-spec =
     tie.close
     (tie.spec
     valid-requires
@@ -80,7 +83,7 @@ join-spec =
     agrees-requires
     refused-requires-2
     returns-2
-    merge-requires
+    merge-lent-requires
     enum-told
     enum-told-2
     refused-requires-3
