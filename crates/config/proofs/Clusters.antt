@@ -19,7 +19,7 @@ use Rattle.config.specs.declared.answer.Refusal.{Refusal}
 use Rattle.config.specs.declared.answer.Number.{Number}
 use Rattle.config.specs.declared.answer.Decision.{Decision}
 use Rattle.config.specs.Cluster.{validOf, serverOf, startOf, totalOf, aboveOf, leastOf}
-use Rattle.config.specs.Answers.{decide, startAnswer, totalAnswer, leastAnswer}
+use Rattle.config.specs.Answers.{decide, totalAnswer, leastAnswer}
 
 -- ---- validity
 
@@ -134,14 +134,6 @@ told-refused : (b : Bool) (x : ℕ) (r : Refusal) → cond b (Number.Value x) (N
 told-refused b x r e = chosen-second b _ _ _ (value-not-refused _ _) e
 
 -- what an answer with a value tells, and one that refuses
-pub start-told : (c : Config) (i y : ℕ) → startAnswer c i ≡ Number.Value y → (serverOf c i ≡ true) × (y ≡ startOf c i)
-unfolding startAnswer
-start-told c i y e = told-value (serverOf c i) (startOf c i) y e
-
-pub start-refused : (c : Config) (i : ℕ) (r : Refusal) → startAnswer c i ≡ Number.Refused r → serverOf c i ≡ false
-unfolding startAnswer
-start-refused c i r e = told-refused (serverOf c i) (startOf c i) r e
-
 pub total-told : (c : Config) (y : ℕ) → totalAnswer c ≡ Number.Value y → (validOf c ≡ true) × (y ≡ totalOf c)
 unfolding totalAnswer
 total-told c y e = told-value (validOf c) (totalOf c) y e

@@ -13,11 +13,11 @@ use Rattle.quorums.specs.Accounts.{held, weight, total, quorum}
 use Rattle.quorums.proofs.Sums.{all-same, sumIn-same}
 use Rattle.quorums.proofs.Weights.{quorum-is}
 use Rattle.config.specs.Cluster.{validOf, serverOf, startOf, totalOf, aboveOf}
-use Rattle.config.specs.Answers.{startAnswer, totalAnswer, leastAnswer}
+use Rattle.config.specs.Answers.{totalAnswer, leastAnswer}
 use Rattle.config.specs.declared.cluster.Config.{Config}
 use Rattle.config.specs.declared.answer.Number.{Number}
 use Rattle.config.specs.declared.answer.Refusal.{Refusal}
-use Rattle.config.proofs.Clusters.{valid-server, server-small, valid-bounds, above-least, start-small, least-small, total-small, start-told, start-refused, least-told, least-refused, total-told, total-refused}
+use Rattle.config.proofs.Clusters.{valid-server, server-small, valid-bounds, above-least, least-small, total-small, least-told, least-refused, total-told, total-refused}
 use Rattle.ledger.specs.declared.ledger.Ledger.{Ledger}
 use Rattle.ledger.specs.Ledgers.{cellOf, receivedOf, givenOf, accountsOf, Typed}
 use Rattle.format.specs.Bytes.{bit}
@@ -32,12 +32,9 @@ use Rattle.reader.proofs.Weighed.{sum-most}
 
 -- ---- answers
 
--- a cluster within bounds is never refused, nor is a server of it
+-- a cluster within bounds is never refused
 never : false ≡ true → ⊥
 never e = let z : _≡_ {A = ℕ} 0 1 = cc in omega arith
-
-pub start-stands : (c : Config) (i : ℕ) (r : Refusal) → serverOf c i ≡ true → startAnswer c i ≡ Number.Refused r → ⊥
-start-stands c i r s e = never (sym (start-refused c i r e) ∙ s)
 
 pub least-stands : (c : Config) (r : Refusal) → validOf c ≡ true → leastAnswer c ≡ Number.Refused r → ⊥
 least-stands c r v e = never (sym (least-refused c r e) ∙ v)
@@ -46,9 +43,6 @@ pub total-stands : (c : Config) (r : Refusal) → validOf c ≡ true → totalAn
 total-stands c r v e = never (sym (total-refused c r e) ∙ v)
 
 -- what is answered is small
-pub start-bound : (c : Config) (i start : ℕ) → startAnswer c i ≡ Number.Value start → start ≤ 16000
-start-bound c i start e = omega (arith, start-told c i start e .1, start-small c i)
-
 pub least-bound : (c : Config) (least : ℕ) → leastAnswer c ≡ Number.Value least → least ≤ 16001
 least-bound c least e = omega (arith, least-told c least e .1, least-small c (least-told c least e .0))
 
@@ -61,17 +55,17 @@ abbrev pub aboveAt : Config → List ℕ → List ℕ → ℕ → Bool
 aboveAt c r g i = aboveOf c (weight (accountsIn c r g) i)
 
 -- the test of one server
-pub above-at : (c : Config) (r g : List ℕ) (i start least : ℕ) → validOf c ≡ true → startAnswer c i ≡ Number.Value start → leastAnswer c ≡ Number.Value least
+pub above-at : (c : Config) (r g : List ℕ) (i start least : ℕ) → validOf c ≡ true → start ≡ startOf c i → leastAnswer c ≡ Number.Value least
     → aboveAt c r g i ≡ leb (getD g i 0 + least) (start + getD r i 0)
 unfolding weight
 above-at c r g i start least v s e =
     above-least c (startOf c i + getD r i 0) (getD g i 0) v
-    ∙ ap₂ (λ x y. leb (getD g i 0 + x) (y + getD r i 0)) (sym (least-told c least e .1)) (sym (start-told c i start s .1))
+    ∙ ap₂ (λ x y. leb (getD g i 0 + x) (y + getD r i 0)) (sym (least-told c least e .1)) (sym s)
 
 -- the weight of one server
-pub weight-at : (c : Config) (r g : List ℕ) (i start : ℕ) → startAnswer c i ≡ Number.Value start → difference (start + getD r i 0) (getD g i 0) ≡ weight (accountsIn c r g) i
+pub weight-at : (c : Config) (r g : List ℕ) (i start : ℕ) → start ≡ startOf c i → difference (start + getD r i 0) (getD g i 0) ≡ weight (accountsIn c r g) i
 unfolding weight
-weight-at c r g i start e = ap (λ s. difference (s + getD r i 0) (getD g i 0)) (start-told c i start e .1)
+weight-at c r g i start e = ap (λ s. difference (s + getD r i 0) (getD g i 0)) e
 
 -- a server that a map names counts, and one that it does not name does not
 pub named-counts : (m i x y z : ℕ) → bit m i ≡ 1 → z ≡ x + y → z ≡ x + cond (named m i) y 0

@@ -20,10 +20,7 @@ pub(crate) fn above_floor(config: Config, received: &[u64], given: &[u64]) -> bo
     };
     let mut i: usize = 0;
     while i < n {
-        let Number::Value(start) = config.start(i as u64) else {
-            return false;
-        };
-        if start + received[i] < given[i] + least {
+        if config.start_at(i as u64) + received[i] < given[i] + least {
             return false;
         }
         i += 1;
@@ -37,10 +34,7 @@ pub(crate) fn weight_of(config: Config, received: &[u64], given: &[u64], server:
     ensures { λ r. ⌜ r ≡ weightOf (accountsIn config (now (received .entry)) (now (given .entry))) server ⌝ }
 {
     let i = server as usize;
-    let Number::Value(start) = config.start(server) else {
-        return 0;
-    };
-    let held = start + received[i];
+    let held = config.start_at(server) + received[i];
     (held as i64) - (given[i] as i64)
 }
 
@@ -57,9 +51,7 @@ pub(crate) fn is_quorum(config: Config, received: &[u64], given: &[u64], map: u6
     let mut gave: u64 = 0;
     let mut i: usize = 0;
     while i < n {
-        let Number::Value(start) = config.start(i as u64) else {
-            return false;
-        };
+        let start = config.start_at(i as u64);
         if bit(map, i) == 1 {
             held = held + start + received[i];
             gave = gave + given[i];

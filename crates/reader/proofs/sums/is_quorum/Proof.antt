@@ -3,19 +3,18 @@ use Prim.Native.Nat.{_+_, _-_, _*_, _≤_, _<_}
 use native.Mathlib.Omega.{arith}
 use mathlib.Core.Path.{_≡_, sym, ap, ap₂, _∙_}
 use mathlib.Core.Logic.{⊎-elim}
-use mathlib.Core.Bool.{true, cond}
+use mathlib.Core.Bool.{cond}
 use borrow.Author.Needs.{needs}
 use lib.ListN.{getD}
 use Rattle.quorums.specs.Sum.{sumIn}
 use Rattle.quorums.specs.Accounts as A
 use Rattle.quorums.proofs.Sums.{sumIn-none, sumIn-next}
-use Rattle.config.specs.Cluster.{serverOf, startOf}
 use Rattle.config.specs.Answers.{totalAnswer}
 use Rattle.config.specs.declared.answer.Number.{Number}
-use Rattle.config.proofs.Clusters.{valid-bounds, valid-server, start-small, start-told}
+use Rattle.config.proofs.Clusters.{valid-bounds, start-small}
 use Rattle.ledger.specs.Maps.{named}
 use Rattle.reader.specs.Sums.{accountsIn}
-use Rattle.reader.proofs.Weights.{start-stands, total-stands, total-bound, named-counts, unnamed-counts, counts-most, quorum-at}
+use Rattle.reader.proofs.Weights.{total-stands, total-bound, named-counts, unnamed-counts, counts-most, quorum-at}
 use Rattle.reader.proofs.sums.is_quorum.Statement.{statement}
 use Rattle.reader.proofs.sums.is_quorum.Tie as tie
 
@@ -45,71 +44,64 @@ returns c = absurd (total-stands _ _ (c .before .before .before .before .before 
 loop-holds : tie.Need-loop-holds Inv-loop μ-loop
 loop-holds c = (omega arith, sym (sumIn-none _ _), sym (sumIn-none _ _), omega arith, omega arith)
 
-start-requires : tie.Need-start-requires Inv-loop μ-loop
-start-requires c κs = search needs
+start-at-requires : tie.Need-start-at-requires Inv-loop μ-loop
+start-at-requires c κs = search needs
 
-enum-known-start : tie.Need-enum-known-start Inv-loop μ-loop
-enum-known-start c = search needs
-
-enum-told-2 : tie.Need-enum-told-2 Inv-loop μ-loop
-enum-told-2 c = search needs
-
--- i is a server
-server : (c : tie.In-loop Inv-loop μ-loop) → serverOf (c .before .before .before .before .before .before .before .before .args .config) (c .before .loop .i) ≡ true
-server c = valid-server _ _ (c .before .before .before .before .before .before .before .before .pre .0) (c .loop-test .taken)
+-- the entry
+abbrev entry : tie.In-loop Inv-loop μ-loop → tie.Start Inv-loop μ-loop
+entry c = c .before .before .before .before .before .before .before .before
 
 small : (c : tie.In-loop Inv-loop μ-loop) → c .before .loop .i < 16
-small c = omega (arith, c .loop-test .taken, valid-bounds _ (c .before .before .before .before .before .before .before .before .pre .0) .most)
-
-returns-2 : tie.Need-returns-2 Inv-loop μ-loop
-returns-2 c = absurd (start-stands _ _ _ (server (c .before .before .before)) (sym (c .before .before .start .ensures) ∙ c .enum-told2 .given .1))
-
-start-is : (c : tie.After-known-told2 Inv-loop μ-loop) → c .before .start2 .given .0 .0 ≡ startOf (c .before .before .before .before .before .before .before .before .before .before .before .before .args .config) (c .before .before .before .before .before .loop .i)
-start-is c = start-told _ _ _ (sym (c .before .before .before .start .ensures) ∙ c .before .start2 .given .1) .1
+small c = omega (arith, c .loop-test .taken, valid-bounds _ (entry c .pre .0) .most)
 
 -- what a turn may add is small
-more-held : (c : tie.After-known-told2 Inv-loop μ-loop) → c .before .start2 .given .0 .0 + getD (c .before .before .before .before .before .before .before .before .before .before .before .before .args .received .now) (c .before .before .before .before .before .loop .i) 0 ≤ 68719492720
+more-held : (c : tie.After-start-at Inv-loop μ-loop) → c .start-at .result + getD (entry (c .before) .args .received .now) (c .before .before .loop .i) 0 ≤ 68719492720
 more-held c =
-    let s = c .before .before .before .before .before .before .before .before .before .before .before .before in
-    let i = c .before .before .before .before .before .loop .i in
-    omega (arith, start-is c, start-small (s .args .config) i, s .pre .1 .small i)
+    let s = entry (c .before) in
+    let i = c .before .before .loop .i in
+    omega (arith, c .start-at .ensures, start-small (s .args .config) i, s .pre .1 .small i)
 
-more-gave : (c : tie.After-known-told2 Inv-loop μ-loop) → getD (c .before .before .before .before .before .before .before .before .before .before .before .before .args .given .now) (c .before .before .before .before .before .loop .i) 0 ≤ 68719492720
-more-gave c = omega (arith, c .before .before .before .before .before .before .before .before .before .before .before .before .pre .2 .small (c .before .before .before .before .before .loop .i))
+more-gave : (c : tie.After-start-at Inv-loop μ-loop) → getD (entry (c .before) .args .given .now) (c .before .before .loop .i) 0 ≤ 68719492720
+more-gave c = omega (arith, entry (c .before) .pre .2 .small (c .before .before .loop .i))
 
 bit-requires : tie.Need-bit-requires Inv-loop μ-loop
-bit-requires c κs = small (c .before .before .before .before)
+bit-requires c κs = small (c .before)
 
 add-held : tie.Need-add-held Inv-loop μ-loop
-add-held c = omega (arith, c .before .before .before .before .before .before .before .loop .inv .3, small (c .before .before .before .before .before .before), more-held (c .before .before))
+add-held c = let x = c .before .before in omega (arith, x .before .before .loop .inv .3, small (x .before), more-held x)
 
 mul-held : tie.Need-mul-held Inv-loop μ-loop
-mul-held c = omega (arith, small (c .before .before .before .before .before .before))
+mul-held c = omega (arith, small (c .before .before .before))
 
 shared-slice-read-held : tie.Need-shared-slice-read-held Inv-loop μ-loop
-shared-slice-read-held c = omega (arith, small (c .before .before .before .before .before .before .before), c .before .before .before .before .before .before .before .before .before .before .before .before .before .before .before .pre .1 .size)
+shared-slice-read-held c = let t = c .before .before .before .before in omega (arith, small t, entry t .pre .1 .size)
 
 add-held-2 : tie.Need-add-held-2 Inv-loop μ-loop
-add-held-2 c = omega (arith, c .before .before .before .before .before .before .before .before .loop .inv .3, small (c .before .before .before .before .before .before .before), more-held (c .before .before .before))
+add-held-2 c = let x = c .before .before .before in omega (arith, x .before .before .loop .inv .3, small (x .before), more-held x)
 
 mul-gave : tie.Need-mul-gave Inv-loop μ-loop
-mul-gave c = omega (arith, small (c .before .before .before .before .before .before .before))
+mul-gave c = omega (arith, small (c .before .before .before .before))
+
+abbrev turn : tie.After-shared-slice-known4 Inv-loop μ-loop → tie.After-start-at Inv-loop μ-loop
+turn c = c .before .before .before .before
 
 shared-slice-read-gave : tie.Need-shared-slice-read-gave Inv-loop μ-loop
-shared-slice-read-gave c = omega (arith, small (c .before .before .before .before .before .before .before .before), c .before .before .before .before .before .before .before .before .before .before .before .before .before .before .before .before .pre .2 .size)
+shared-slice-read-gave c = let t = turn c .before in omega (arith, small t, entry t .pre .2 .size)
 
 add-gave : tie.Need-add-gave Inv-loop μ-loop
-add-gave c = omega (arith, c .before .before .before .before .before .before .before .before .before .loop .inv .4, small (c .before .before .before .before .before .before .before .before), more-gave (c .before .before .before .before))
+add-gave c = let x = turn c in omega (arith, x .before .before .loop .inv .4, small (x .before), more-gave x)
 
 -- what a turn does add
 added : (c : tie.Joined1 Inv-loop μ-loop) →
-    let a = c .before .before .before .before .before .before .before .before .before .before .before .before .before .before .args in
-    let l = c .before .before .before .before .before .before .before .loop in
-    (c .if1 .held ≡ l .held + cond (named (a .map) (l .i)) (c .before .before .before .start2 .given .0 .0 + getD (a .received .now) (l .i) 0) 0)
+    let x = c .before .before in
+    let a = entry (x .before) .args in
+    let l = x .before .before .loop in
+    (c .if1 .held ≡ l .held + cond (named (a .map) (l .i)) (x .start-at .result + getD (a .received .now) (l .i) 0) 0)
     × (c .if1 .gave ≡ l .gave + cond (named (a .map) (l .i)) (getD (a .given .now) (l .i) 0) 0)
 added c =
-    let a = c .before .before .before .before .before .before .before .before .before .before .before .before .before .before .args in
-    let l = c .before .before .before .before .before .before .before .loop in
+    let x = c .before .before in
+    let a = entry (x .before) .args in
+    let l = x .before .before .loop in
     ⊎-elim (λ w. (named-counts (a .map) (l .i) _ _ _ (sym (c .before .bit .ensures .0) ∙ w .0 .taken) (omega (arith, w .3)), named-counts (a .map) (l .i) _ _ _ (sym (c .before .bit .ensures .0) ∙ w .0 .taken) (w .4)))
     (λ w. (unnamed-counts (a .map) (l .i) _ _ _ (λ e. w .0 .left (c .before .bit .ensures .0 ∙ e)) (w .1), unnamed-counts (a .map) (l .i) _ _ _ (λ e. w .0 .left (c .before .bit .ensures .0 ∙ e)) (w .2)))
     (c .if1 .came)
@@ -122,18 +114,18 @@ loop-less c = search needs
 
 loop-again : tie.Need-loop-again Inv-loop μ-loop
 loop-again c =
-    let a = c .before .before .before .before .before .before .before .before .before .before .before .before .before .before .args in
-    let l = c .before .before .before .before .before .before .before .loop in
+    let x = c .before .before in
+    let a = entry (x .before) .args in
+    let l = x .before .before .loop in
     let more = added c in
     let named-now = named (a .map) (l .i) in
-    let start = c .before .before .before .start2 .given .0 .0 in
     let received = getD (a .received .now) (l .i) 0 in
     let given = getD (a .given .now) (l .i) 0 in (
-      omega (arith, c .before .before .before .before .before .before .loop-test .taken),
-      more .0 ∙ ap₂ (λ x s. x + cond named-now (s + received) 0) (l .inv .1) (start-is (c .before .before)) ∙ sym (sumIn-next _ _ _),
-      more .1 ∙ ap (λ x. x + cond named-now given 0) (l .inv .2) ∙ sym (sumIn-next _ _ _),
-      omega (arith, more .0, counts-most named-now (start + received), more-held (c .before .before), l .inv .3),
-      omega (arith, more .1, counts-most named-now given, more-gave (c .before .before), l .inv .4),
+      omega (arith, x .before .loop-test .taken),
+      more .0 ∙ ap₂ (λ y s. y + cond named-now (s + received) 0) (l .inv .1) (x .start-at .ensures) ∙ sym (sumIn-next _ _ _),
+      more .1 ∙ ap (λ y. y + cond named-now given 0) (l .inv .2) ∙ sym (sumIn-next _ _ _),
+      omega (arith, more .0, counts-most named-now (x .start-at .result + received), more-held x, l .inv .3),
+      omega (arith, more .1, counts-most named-now given, more-gave x, l .inv .4),
     )
 
 -- the sums are small
@@ -154,8 +146,8 @@ add-result c = omega (arith, bound c, total-bound _ _ (total-is (c .before .befo
 mul-result-2 : tie.Need-mul-result-2 Inv-loop μ-loop
 mul-result-2 c = omega (arith, bound c)
 
-returns-3 : tie.Need-returns-3 Inv-loop μ-loop
-returns-3 c =
+returns-2 : tie.Need-returns-2 Inv-loop μ-loop
+returns-2 c =
     let a = c .before .before .before .before .before .before .before .before .args in
     let l = c .before .loop in
     let e : l .i ≡ a .config .n = omega arith in
@@ -174,10 +166,7 @@ is-quorum-spec =
     enum-told
     returns
     loop-holds
-    start-requires
-    enum-known-start
-    enum-told-2
-    returns-2
+    start-at-requires
     bit-requires
     add-held
     mul-held
@@ -192,4 +181,4 @@ is-quorum-spec =
     mul-result
     add-result
     mul-result-2
-    returns-3)
+    returns-2)
