@@ -25,10 +25,6 @@ pub struct ModelDesk {
     pub desk: Desk<Ledger>,
 }
 
-fn config(n: u64, f: u64) -> Config {
-    Config::new(n, f).expect("the cluster is within bounds")
-}
-
 fn code(No(number): No) -> i64 {
     -1_000_000 - i64::from(number)
 }
@@ -69,7 +65,7 @@ impl Store for Model {
 
     fn open_server(&self, n: u64, f: u64, number: u64) -> ModelServer {
         ModelServer {
-            config: config(n, f),
+            config: Config::level(n, f),
             server: Server::fresh(number as usize),
         }
     }
@@ -103,7 +99,7 @@ impl Store for Model {
 
     fn open_desk(&self, n: u64, f: u64, number: u64) -> ModelDesk {
         ModelDesk {
-            config: config(n, f),
+            config: Config::level(n, f),
             desk: Desk::fresh(number as u16),
         }
     }

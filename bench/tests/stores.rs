@@ -136,7 +136,7 @@ impl Trio {
     fn open(random: &mut Random) -> Trio {
         let (n, f) = cluster(random);
         Trio {
-            config: Config::new(n, f).expect("the cluster is within bounds"),
+            config: Config::level(n, f),
             servers: (0..n)
                 .map(|i| Three {
                     core: CORE.open_server(n, f, i),

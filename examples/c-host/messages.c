@@ -49,32 +49,49 @@ static void show(const char *question, int64_t answer)
     printf("\n");
 }
 
+/* The three questions about a message, in this cluster. */
+
+static int64_t check(const uint8_t *msg, size_t len)
+{
+    return tovridsa_check(SERVERS, CRASHES, msg, len);
+}
+
+static int64_t weight(uint64_t server, const uint8_t *msg, size_t len)
+{
+    return tovridsa_weight(SERVERS, CRASHES, server, msg, len);
+}
+
+static int64_t quorum(uint64_t map, const uint8_t *msg, size_t len)
+{
+    return tovridsa_quorum(SERVERS, CRASHES, map, msg, len);
+}
+
 int main(void)
 {
     uint8_t none[65] = {0};
     char question[64];
 
-    show("check the share", tovridsa_check(SERVERS, CRASHES, share, sizeof share));
+    show("check the share", check(share, sizeof share));
     for (uint64_t server = 0; server < SERVERS; server++) {
         snprintf(question, sizeof question, "weight of server %" PRIu64, server);
-        show(question, tovridsa_weight(SERVERS, CRASHES, server, share, sizeof share));
+        show(question, weight(server, share, sizeof share));
     }
-    show("are servers 2, 3 and 4 a quorum", tovridsa_quorum(SERVERS, CRASHES, 0x1C, share, sizeof share));
-    show("are servers 0, 1 and 3", tovridsa_quorum(SERVERS, CRASHES, 0x0B, share, sizeof share));
-    show("are servers 2 and 4", tovridsa_quorum(SERVERS, CRASHES, 0x14, share, sizeof share));
+    show("are servers 2, 3 and 4 a quorum", quorum(0x1C, share, sizeof share));
+    show("are servers 0, 1 and 3", quorum(0x0B, share, sizeof share));
+    show("are servers 2 and 4", quorum(0x14, share, sizeof share));
     show("seats on offer", tovridsa_seats(block, sizeof block));
     show("seats of the empty block", tovridsa_seats(NULL, 0));
 
     printf("\n");
-    show("check it without its last byte", tovridsa_check(SERVERS, CRASHES, share, sizeof share - 1));
-    show("check an empty message", tovridsa_check(SERVERS, CRASHES, NULL, 0));
-    show("check zeros", tovridsa_check(SERVERS, CRASHES, none, sizeof none));
+    show("check it without its last byte", check(share, sizeof share - 1));
+    show("check an empty message", check(NULL, 0));
+    show("check zeros", check(none, sizeof none));
     show("check it for a cluster of two servers", tovridsa_check(2, 0, share, sizeof share));
-    show("check a share that gave too much", tovridsa_check(SERVERS, CRASHES, light, sizeof light));
+    show("check a share that gave too much", check(light, sizeof light));
     show("check it for five servers of which three may crash", tovridsa_check(SERVERS, 3, share, sizeof share));
-    show("weight of server 5", tovridsa_weight(SERVERS, CRASHES, 5, share, sizeof share));
-    show("weight of server 2^32", tovridsa_weight(SERVERS, CRASHES, UINT64_C(1) << 32, share, sizeof share));
-    show("is a map with bit 5 a quorum", tovridsa_quorum(SERVERS, CRASHES, 0x3F, share, sizeof share));
+    show("weight of server 5", weight(5, share, sizeof share));
+    show("weight of server 2^32", weight(UINT64_C(1) << 32, share, sizeof share));
+    show("is a map with bit 5 a quorum", quorum(0x3F, share, sizeof share));
     show("seats of a block of 65 bytes", tovridsa_seats(none, sizeof none));
     return 0;
 }

@@ -27,7 +27,7 @@ pub fn aimed(random: &mut Random, place: Place, also: Option<Place>) -> Aimed {
     assert_ne!(place, Place::House, "no message is refused there");
     loop {
         let (n, f) = cluster(random);
-        let config = Config::new(n, f).expect("the cluster is within bounds");
+        let config = Config::level(n, f);
         let mut room = [0; 64];
         let mut message = lawful::message(random, config, &mut room);
         if n > 1 && (place == Place::Light || also == Some(Place::Light)) {

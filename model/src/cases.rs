@@ -84,7 +84,7 @@ fn message(random: &mut Random) -> (u64, u64, Vec<u8>) {
 /// A message that passes, now and then the longest, and its parts.
 fn lawful_message(random: &mut Random) -> (u64, u64, Vec<u8>, Vec<Piece>) {
     let (n, f) = cluster(random);
-    let config = Config::new(n, f).expect("the cluster is within bounds");
+    let config = Config::level(n, f);
     let mut room = [0; 64];
     let message = match random.below(8) {
         0 => lawful::longest(random, config, &mut room),

@@ -212,7 +212,7 @@ mod tests {
         let mut random = Random::new(4);
         for _ in 0..50_000 {
             let (n, f) = cluster(&mut random);
-            let config = Config::new(n, f).unwrap();
+            let config = Config::level(n, f);
             let mut room = [0; 64];
             let message = message(&mut random, config, &mut room);
             let bytes = write(&message);
@@ -227,7 +227,7 @@ mod tests {
     #[test]
     fn the_longest_has_1111_bytes() {
         let mut random = Random::new(5);
-        let config = Config::new(16, 7).unwrap();
+        let config = Config::level(16, 7);
         for _ in 0..1_000 {
             let mut room = [0; 64];
             let message = longest(&mut random, config, &mut room);
@@ -242,7 +242,7 @@ mod tests {
         let mut random = Random::new(6);
         for _ in 0..50_000 {
             let (n, f) = cluster(&mut random);
-            let config = Config::new(n, f).unwrap();
+            let config = Config::level(n, f);
             if n > 1 {
                 let mut room = [0; 64];
                 let mut message = message(&mut random, config, &mut room);

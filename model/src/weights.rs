@@ -31,6 +31,11 @@ impl Config {
         }
     }
 
+    /// A cluster within bounds whose servers start level.
+    pub fn level(n: u64, f: u64) -> Config {
+        Config::new(n, f).expect("the cluster is within bounds")
+    }
+
     /// The number of servers.
     pub fn n(self) -> usize {
         self.n
@@ -146,7 +151,7 @@ mod tests {
     #[test]
     fn floor_of_the_papers_cases() {
         for (n, f, gift) in [(5, 1, 374), (4, 1, 333), (16, 7, 111)] {
-            let config = Config::new(n, f).unwrap();
+            let config = Config::level(n, f);
             assert!(config.above_floor(START - gift));
             assert!(!config.above_floor(START - gift - 1));
         }

@@ -3,18 +3,21 @@
 //! model over counts and cells has to agree.
 
 use model::machine::calls::Right;
-use model::machine::command::Command;
+use model::machine::command::{hex, Command};
 use model::machine::program::Program;
 use model::machine::transfers::Transfers;
+use model::seats::TWO_SOLD;
 use model::weights::Ledger;
 
-/// The answers of both models to a script, which have to be the same. A word
-/// `@k` stands for the message that line k sent, counted from 0.
-fn answers(script: &[&str]) -> Vec<String> {
+/// The answers of both models to a script, which have to be the same. Line 0
+/// opens a house of n and f whose servers start level, and the script follows. A
+/// word `@k` stands for the message that line k sent.
+fn answers(n: u64, f: u64, script: &[&str]) -> Vec<String> {
     let mut machine = Program::<Transfers, _>::new(Right);
     let mut cells = Program::<Ledger, _>::new(Right);
     let mut answers: Vec<String> = Vec::new();
-    for line in script {
+    let opening = format!("house {n} {f}");
+    for line in [opening.as_str()].iter().chain(script) {
         let words: Vec<&str> = (line.split(' '))
             .map(|word| match word.strip_prefix('@') {
                 None => word,
@@ -35,25 +38,24 @@ fn answers(script: &[&str]) -> Vec<String> {
 
 #[test]
 fn cases_1_to_6_transfers_at_the_floor() {
-    for (house, most) in [("house 5 1", 374), ("house 4 1", 333), ("house 16 7", 111)] {
+    for (n, f, most) in [(5, 1, 374), (4, 1, 333), (16, 7, 111)] {
         let passes = format!("transfer 0 1 {most}");
         let thin = format!("transfer 0 1 {}", most + 1);
-        assert_eq!(answers(&[house, &thin, &passes])[1..], ["no 10", "ok"]);
+        assert_eq!(answers(n, f, &[&thin, &passes])[1..], ["no 10", "ok"]);
     }
 }
 
 #[test]
 fn case_7_two_fresh_servers_of_four() {
-    for house in ["house 4 0", "house 4 1"] {
-        let script = [house, "share 0 0 1111", "quorum 3 @1", "quorum 7 @1"];
-        assert_eq!(answers(&script)[2..], ["0", "1"]);
+    for f in [0, 1] {
+        let script = ["share 0 0 1111", "quorum 3 @1", "quorum 7 @1"];
+        assert_eq!(answers(4, f, &script)[2..], ["0", "1"]);
     }
 }
 
 #[test]
 fn cases_8_and_9_quorums_after_two_gifts() {
     let script = [
-        "house 5 1",
         "transfer 0 2 374",
         "transfer 1 2 374",
         "share 0 0 1111",
@@ -62,27 +64,22 @@ fn cases_8_and_9_quorums_after_two_gifts() {
         "quorum 20 @5",
         "quorum 5 @5",
     ];
-    assert_eq!(answers(&script)[6..], ["1", "0"]);
+    assert_eq!(answers(5, 1, &script)[6..], ["1", "0"]);
 }
 
 #[test]
 fn the_share_in_hex() {
-    let script = [
-        "house 5 1",
-        "transfer 0 2 200",
-        "share 0 0 14",
-        "share 0 7 20",
-    ];
-    let answers = answers(&script);
+    let answers = answers(5, 1, &["transfer 0 2 200", "share 0 0 14", "share 0 7 20"]);
     assert_eq!(answers[2], "ok 14 00230300000100010004000000C8");
     assert_eq!(answers[3], "no 13");
 }
 
 #[test]
 fn a_read_across_a_transfer() {
+    let block = hex(TWO_SOLD);
+    let begin = format!("begin 1 write 5 {block}");
     let script = [
-        "house 3 0",
-        "begin 1 write 5 A0",
+        begin.as_str(),
         "ask 1 0 0 1111",
         "serve 0 0 1111 @2",
         "hear 1 @3",
@@ -123,13 +120,16 @@ fn a_read_across_a_transfer() {
         "hear 2 @38",
         "result 2",
     ];
-    let answers = answers(&script);
+    let answers = answers(3, 0, &script);
     assert_eq!(answers[8], "late");
     assert_eq!(
         answers[16],
-        "desk 1 n 3 f 0 tag 1 1 value A0 weights 1000 501 1499 counts 0 1 0 cells 1>2:499 \
-         round 3 operation running write phase 2 note 5 restarts 1 answered - writing A0 chosen 1 1 A0"
+        format!(
+            "desk 1 n 3 f 0 tag 1 1 value {block} weights 1000 501 1499 counts 0 1 0 cells 1>2:499 \
+             round 3 operation running write phase 2 note 5 restarts 1 answered - writing {block} \
+             chosen 1 1 {block}"
+        )
     );
-    assert_eq!(answers[23], "ok write 1 1 1 A0");
-    assert_eq!(answers[40], "ok read 1 1 1 A0");
+    assert_eq!(answers[23], format!("ok write 1 1 1 {block}"));
+    assert_eq!(answers[40], format!("ok read 1 1 1 {block}"));
 }

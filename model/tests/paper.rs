@@ -5,6 +5,7 @@
 
 use model::answers::refusal;
 use model::format::{Kind, Message, Register};
+use model::seats::{ALL_FREE, SOLD_OUT, TOO_LONG, TWO_SOLD};
 use model::weights::Ledger;
 use model::write::write;
 use model::{answers, proved};
@@ -114,10 +115,10 @@ fn case_10_a_gift_without_what_it_came_from() {
 
 #[test]
 fn case_11_seats() {
-    assert_eq!(seats(&[0xA0]), 6);
+    assert_eq!(seats(TWO_SOLD), 6);
     assert_eq!(seats(&[]), 0);
-    assert_eq!(seats(&[0; 64]), 512);
-    assert_eq!(seats(&[0; 65]), refusal(LONG));
+    assert_eq!(seats(ALL_FREE), 512);
+    assert_eq!(seats(TOO_LONG), refusal(LONG));
 }
 
 /// A message of 1,111 bytes for n = 16, every number in it as large as it may be.
@@ -137,7 +138,7 @@ fn longest() -> Message<'static> {
         register: Some(Register {
             stamp: u32::MAX,
             desk: 65_535,
-            value: &[0xFF; 64],
+            value: SOLD_OUT,
         }),
         ledger,
         note: Some(u32::MAX),

@@ -10,6 +10,10 @@ use Rattle.config.specs.declared.cluster.Config.{Config}
 abbrev pub configOf : ℕ → ℕ → Config
 configOf n f = record { n = n; f = f }
 
+-- a house whose n servers start level, each at 1,000, and of which f may crash: examples name theirs by it
+abbrev pub level : ℕ → ℕ → Config
+level n f = configOf n f
+
 -- 1 ≤ n ≤ 16 and 2f < n
 unfoldable pub validOf : Config → Bool
 validOf c = cond (leb 1 (c .n)) (cond (leb (c .n) 16) (ltb (2 * c .f) (c .n)) false) false

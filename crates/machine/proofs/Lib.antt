@@ -2,6 +2,7 @@
 
 -- Runs by computation.
 pub mod Computing
+pub mod Blocks
 pub mod Pins
 -- Lists, places of a run, and what comes out of a choice.
 pub mod Lists

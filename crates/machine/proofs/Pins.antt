@@ -4,12 +4,13 @@ use Prim.Native.Nat.{ℕ}
 use mathlib.Core.Path.{_≡_, refl}
 use mathlib.Core.Bool.{true}
 use mathlib.Core.List.{List, [], _∷_, _++_, map}
-use lib.ListN.{length, replicate}
-use Rattle.config.specs.Cluster.{configOf}
+use lib.ListN.{length}
+use Rattle.config.specs.Cluster.{level}
 use Rattle.machine.specs.Parties.{read, write, bytesOf, Result}
 use Rattle.machine.specs.Runs.{Answer, unmade, late, refused, done, wrote, told, at, answersOf}
 use Rattle.machine.specs.Steps.{Step, begin, ask, serve, hear, result, drop, transfer, share, crash, machine, PlainRun, runOf}
 use Rattle.machine.proofs.Computing.{computing}
+use Rattle.machine.proofs.Blocks.{sale, tooLong}
 
 -- a step, and the answer that it gets
 pub record Row : Type 0 where
@@ -32,16 +33,9 @@ room = 1111
 
 -- ---- one server, and the last desk
 
--- a block of sixteen seats, and one of more than 64 bytes
-abbrev pub block : List ℕ
-block = 255 ∷ 252 ∷ []
-
-abbrev pub tooLong : List ℕ
-tooLong = replicate 65 0
-
 -- what desk 65,535 wrote
 abbrev pub written : Result
-written = record { is-write = true; register = record { stamp = 1; desk = 65535; value = block }; restarts = 0 }
+written = record { is-write = true; register = record { stamp = 1; desk = 65535; value = sale }; restarts = 0 }
 
 -- n = 1, f = 0. Messages are counted from 0.
 abbrev pub alone : List Row
@@ -51,12 +45,12 @@ alone =
     ∷ (begin 65536 read 0 ⇒ unmade)
     -- ask: 9 before 1, 1 before 13
     ∷ (ask 65535 1 0 room ⇒ refused 9)
-    ∷ (begin 65535 (write block) 4294967295 ⇒ done)
+    ∷ (begin 65535 (write sale) 4294967295 ⇒ done)
     ∷ (ask 65535 1 0 0 ⇒ refused 1)
     ∷ (ask 65535 0 0 13 ⇒ refused 13)
     -- begin: 14 before 8
     ∷ (begin 65535 (write tooLong) 0 ⇒ refused 14)
-    ∷ (begin 65535 (write block) 0 ⇒ refused 8)
+    ∷ (begin 65535 (write sale) 0 ⇒ refused 8)
     ∷ (result 65535 ⇒ refused 9)
     -- request 0, of 14 bytes, and reply 1; a request is stray at a desk, a reply at a server
     ∷ (ask 65535 0 0 14 ⇒ wrote 14)
@@ -172,11 +166,11 @@ sixteenBytes =
 
 -- the machine's run of a list of rows
 abbrev pub runIn : ℕ → ℕ → List Row → PlainRun
-runIn n f l = runOf machine (configOf n f) (stepsOf l)
+runIn n f l = runOf machine (level n f) (stepsOf l)
 
 -- the bytes of all messages that it sent
 abbrev pub bytesIn : ℕ → ℕ → List Row → List (List ℕ)
-bytesIn n f l = map (bytesOf (configOf n f)) (at (runIn n f l) (length l) .sent)
+bytesIn n f l = map (bytesOf (level n f)) (at (runIn n f l) (length l) .sent)
 
 pub record Pins : Type 0 where
   pub alone-answers : answersOf (runIn 1 0 alone) ≡ answersIn alone

@@ -11,7 +11,7 @@ use Rattle.quorums.specs.Sum.{sum, all}
 use Rattle.quorums.specs.Difference.{difference}
 use Rattle.quorums.specs.Accounts.{weight, above}
 use Rattle.quorums.proofs.Sums.{sum-le, sum-const, below-suc}
-use Rattle.config.specs.Cluster.{configOf, validOf, startOf, totalOf, aboveOf, stampBytes, mostStamp}
+use Rattle.config.specs.Cluster.{level, validOf, startOf, totalOf, aboveOf, stampBytes, mostStamp}
 use Rattle.config.specs.declared.cluster.Config.{Config}
 use Rattle.ledger.specs.declared.ledger.Ledger.{Ledger}
 use Rattle.ledger.specs.Ledgers.{countOf, cellOf, givenOf, receivedOf}
@@ -100,7 +100,7 @@ longest c msg b e =
 -- ---- a message of 1,111 bytes: 16 servers, each of which gave 1 to each other one; a request with every field, and a value of 64 bytes
 
 pub crowd : Config
-crowd = configOf 16 7
+crowd = level 16 7
 
 exchanged : Ledger
 exchanged = record { counts = table 16 (λ i. 15); cells = table 256 (λ k. cond (eqb (k / 16) (k % 16)) 0 1) }

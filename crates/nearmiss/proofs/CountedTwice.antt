@@ -8,7 +8,8 @@ use Rattle.machine.specs.Steps.{Step, begin, ask, serve, hear, result, machine,
 use Rattle.machine.specs.Seen.{viewOf}
 use Rattle.machine.specs.Views.{Ends, Chose, Order}
 use Rattle.machine.proofs.Computing.{computing}
-use Rattle.nearmiss.specs.Steps.{runBy, room, trip, sale, sold, returned, written}
+use Rattle.machine.proofs.Blocks.{sale, sold}
+use Rattle.nearmiss.specs.Steps.{runBy, room, trip, returned, written}
 use Rattle.nearmiss.specs.Parts.{hearWith, markWith}
 use Rattle.nearmiss.specs.CountedTwice.{weightHeard, enoughReplies, countedTwice}
 use Rattle.machine.proofs.Concrete.{ends-of, chose-of}

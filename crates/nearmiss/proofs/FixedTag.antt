@@ -11,15 +11,12 @@ use Rattle.machine.specs.Steps.{Step, begin, result, machine, PlainRun}
 use Rattle.machine.specs.Seen.{viewOf}
 use Rattle.machine.specs.Views.{Ends, Chose, Order, OneWrite, Values}
 use Rattle.machine.proofs.Computing.{computing}
-use Rattle.nearmiss.specs.Steps.{runBy, trip, sale, sold, returned, written}
+use Rattle.machine.proofs.Blocks.{sale, sold, full}
+use Rattle.nearmiss.specs.Steps.{runBy, trip, returned, written}
 use Rattle.nearmiss.specs.Parts.{hearWith, markWith}
 use Rattle.nearmiss.specs.FixedTag.{chooseFixed, fixedTag}
 use Rattle.machine.proofs.Concrete.{ends-of, chose-of}
 use Rattle.nearmiss.proofs.Refuting.{not-higher}
-
--- all sixteen seats
-abbrev pub full : List ℕ
-full = 255 ∷ 255 ∷ []
 
 -- n = 3, f = 1, all through 0 and 1. Desk 1 writes (places 0 to 12), desk 2 writes (13 to 25), desk 3 reads (26 to 39).
 abbrev pub steps : List Step

@@ -6,7 +6,8 @@ use Rattle.machine.specs.Steps.{PlainRun}
 use Rattle.machine.specs.Seen.{viewOf}
 use Rattle.machine.specs.Views.{Ends, restartsMade, Restarts}
 use Rattle.machine.proofs.Computing.{computing}
-use Rattle.nearmiss.specs.Steps.{runBy, sale, sold, written}
+use Rattle.machine.proofs.Blocks.{sale, sold}
+use Rattle.nearmiss.specs.Steps.{runBy, written}
 use Rattle.nearmiss.specs.NoRestarts.{resultWithout, noRestarts}
 use Rattle.machine.proofs.Concrete.{ends-of}
 use Rattle.nearmiss.proofs.Shown.{twoRestarts}

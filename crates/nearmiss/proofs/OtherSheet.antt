@@ -7,7 +7,7 @@ use mathlib.Core.Bool.{Bool, true, false, cond}
 use mathlib.Core.List.{List, [], _∷_, _++_}
 use lib.Dec.{eqb}
 use Rattle.quorums.specs.Sum.{sum}
-use Rattle.config.specs.Cluster.{configOf, validOf}
+use Rattle.config.specs.Cluster.{level, validOf}
 use Rattle.format.specs.Bytes.{bit}
 use Rattle.machine.specs.Sets.{quorumOf}
 use Rattle.machine.specs.Parties.{start, reply, Message, read, write, second, running, Result}
@@ -17,7 +17,8 @@ use Rattle.machine.specs.Seen.{viewOf}
 use Rattle.machine.specs.Views.{Ends, Chose, Order}
 use Rattle.machine.proofs.Order.{order}
 use Rattle.machine.proofs.Computing.{computing}
-use Rattle.nearmiss.specs.Steps.{runBy, room, trip, passOn, readAfter, sale, sold, returned, written, answersFrom, answers}
+use Rattle.machine.proofs.Blocks.{sale, sold}
+use Rattle.nearmiss.specs.Steps.{runBy, room, trip, passOn, readAfter, returned, written, answersFrom, answers}
 use Rattle.nearmiss.specs.Parts.{hearWith}
 use Rattle.nearmiss.specs.OtherSheet.{countOther, otherSheet}
 use Rattle.machine.proofs.Concrete.{ends-of, chose-of}
@@ -114,8 +115,8 @@ pub record Parting : Type 0 where
   pub counted : deskAt theirs 1 23 .activity ≡ running (record { task = write sale; note = 0; phase = second sold; heard = countedReply ∷ []; restarts = 0 })
   pub restarted : deskAt ours 1 23 .activity ≡ running (record { task = write sale; note = 0; phase = second sold; heard = []; restarts = 1 })
   -- 0, 1 and 3 are a quorum on the sheet without the gifts, and none on the sheet with them
-  pub quorum-then : quorumOf (configOf 5 1) [] three ≡ true
-  pub no-quorum-now : quorumOf (configOf 5 1) (deskAt ours 2 43 .replica .set) three ≡ false
+  pub quorum-then : quorumOf (level 5 1) [] three ≡ true
+  pub no-quorum-now : quorumOf (level 5 1) (deskAt ours 2 43 .replica .set) three ≡ false
   -- desk 1's sale does not end
   pub sale-not-ended : (k : ℕ) (x : Result) → Ends (viewOf ours) 1 0 (write sale) k x → ⊥
 
@@ -135,7 +136,7 @@ parting =
 -- The order of tags holds of it, as of every list.
 pub ours-ordered : Order (viewOf ours)
 unfolding validOf
-ours-ordered = order (configOf 5 1) refl steps
+ours-ordered = order (level 5 1) refl steps
 
 -- ---- and on: desk 1 goes on with its sale through 2 and 4 (places 43 to 52), and desk 3 reads through 2 and 4 (53 to 69)
 

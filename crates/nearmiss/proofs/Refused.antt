@@ -4,21 +4,22 @@ use Prim.Native.Nat.{ℕ, zero, suc}
 use native.Mathlib.Omega.{arith}
 use mathlib.Core.Path.{_≡_, refl}
 use mathlib.Core.List.{[], _∷_}
-use lib.ListN.{replicate}
-use Rattle.config.specs.Cluster.{configOf}
+use Rattle.config.specs.Cluster.{level}
+use Rattle.config.specs.declared.cluster.Config.{Config}
 use Rattle.machine.specs.Sets.{Transfer, Transfers, tally, count}
 use Rattle.machine.specs.Parties.{start, fresh, Replica, reply, Message, Task, read, write, Phase, first, second, running, idle, Desk}
 use Rattle.machine.specs.Runs.{late, refused, done, wrote, unmade, answerAt}
 use Rattle.machine.specs.Calls.{refuse, transferBy, beginBy, hearBy, mostCount, mostRound}
 use Rattle.machine.specs.Steps.{begin, ask, serve, hear, result, drop, transfer, share, crash, machine, PlainRun}
 use Rattle.machine.proofs.Computing.{computing}
-use Rattle.nearmiss.specs.Steps.{runBy, room, sale}
+use Rattle.machine.proofs.Blocks.{sale, longest, tooLong}
+use Rattle.nearmiss.specs.Steps.{runBy, room}
 
 -- n = 3, f = 1: a transfer may leave 751. A request without sheet and register has 10 bytes.
 abbrev pub tried : PlainRun
 tried =
     runBy machine 3 1
-    (result 1 ∷ drop 1 ∷ ask 1 0 0 room ∷ begin 1 (write (replicate 65 0)) 0 ∷ begin 1 (write (replicate 64 0)) 0 ∷ begin 1 read 0 ∷ ask 1 3 0 room
+    (result 1 ∷ drop 1 ∷ ask 1 0 0 room ∷ begin 1 (write tooLong) 0 ∷ begin 1 (write longest) 0 ∷ begin 1 read 0 ∷ ask 1 3 0 room
     ∷ ask 1 0 0 9
     ∷ ask 1 0 (suc room) room
     ∷ ask 1 0 5 15
@@ -138,6 +139,9 @@ numbers =
 
 -- ---- 12: a desk at its last round or stamp, of n = 1 and f = 0, so that one reply is a quorum
 
+abbrev pub alone : Config
+alone = level 1 0
+
 -- a desk that runs an operation in round k, and holds a register with a stamp
 abbrev pub running-in : ℕ → ℕ → Task → Phase → Desk
 running-in k stamp t p =
@@ -160,18 +164,18 @@ lastDesk = record { replica = fresh; round = mostRound; activity = idle }
 
 pub record Spent : Type 0 where
   -- begin at the last round, and a round before
-  pub begin-spent : beginBy (configOf 1 0) lastDesk read 0 ≡ refuse 12 lastDesk
-  pub begin-not-spent : beginBy (configOf 1 0) (record { replica = fresh; round = 4294967294; activity = idle }) read 0 .answer ≡ done
+  pub begin-spent : beginBy alone lastDesk read 0 ≡ refuse 12 lastDesk
+  pub begin-not-spent : beginBy alone (record { replica = fresh; round = 4294967294; activity = idle }) read 0 .answer ≡ done
   -- a restart, and the end of phase 1
-  pub restart-spent : hearBy (configOf 1 0) 1 (running-in mostRound 1 read first) (replied mostRound (gift ∷ []))
+  pub restart-spent : hearBy alone 1 (running-in mostRound 1 read first) (replied mostRound (gift ∷ []))
       ≡ refuse 12 (running-in mostRound 1 read first)
-  pub choice-spent : hearBy (configOf 1 0) 1 (running-in mostRound 1 read first) (replied mostRound []) ≡ refuse 12 (running-in mostRound 1 read first)
+  pub choice-spent : hearBy alone 1 (running-in mostRound 1 read first) (replied mostRound []) ≡ refuse 12 (running-in mostRound 1 read first)
   -- a write at the last stamp, and a read there
-  pub stamp-spent : hearBy (configOf 1 0) 1 (running-in 1 4294967295 (write sale) first) (replied 1 [])
+  pub stamp-spent : hearBy alone 1 (running-in 1 4294967295 (write sale) first) (replied 1 [])
       ≡ refuse 12 (running-in 1 4294967295 (write sale) first)
-  pub read-not-spent : hearBy (configOf 1 0) 1 (running-in 1 4294967295 read first) (replied 1 []) .answer ≡ done
+  pub read-not-spent : hearBy alone 1 (running-in 1 4294967295 read first) (replied 1 []) .answer ≡ done
   -- the end of phase 2 needs no round
-  pub end-not-spent : hearBy (configOf 1 0) 1 (running-in mostRound 1 read (second start)) (replied mostRound []) .answer ≡ done
+  pub end-not-spent : hearBy alone 1 (running-in mostRound 1 read (second start)) (replied mostRound []) .answer ≡ done
 
 pub rounds-spent : Spent
 unfolding computing
@@ -202,9 +206,9 @@ unfolding swaps count tally
 swaps-counted zero = refl
 swaps-counted (suc k) = omega (arith, swaps-counted k)
 
-spent-at : (r : Replica) → count (r .set) 0 ≡ mostCount → transferBy (configOf 3 1) 0 r 1 1 ≡ refuse 12 r
+spent-at : (r : Replica) → count (r .set) 0 ≡ mostCount → transferBy (level 3 1) 0 r 1 1 ≡ refuse 12 r
 unfolding transferBy
 spent-at r e = rw e
 
-pub transfers-spent : transferBy (configOf 3 1) 0 (swapped 65535) 1 1 ≡ refuse 12 (swapped 65535)
+pub transfers-spent : transferBy (level 3 1) 0 (swapped 65535) 1 1 ≡ refuse 12 (swapped 65535)
 transfers-spent = spent-at (swapped 65535) (swaps-counted 65535)

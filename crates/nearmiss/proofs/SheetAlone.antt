@@ -8,7 +8,8 @@ use Rattle.machine.specs.Steps.{Step, begin, machine, PlainRun}
 use Rattle.machine.specs.Seen.{viewOf}
 use Rattle.machine.specs.Views.{Ends, Chose, Order}
 use Rattle.machine.proofs.Computing.{computing}
-use Rattle.nearmiss.specs.Steps.{runBy, trip, passOn, readAfter, sale, sold, returned, written}
+use Rattle.machine.proofs.Blocks.{sale, sold}
+use Rattle.nearmiss.specs.Steps.{runBy, trip, passOn, readAfter, returned, written}
 use Rattle.nearmiss.specs.SheetAlone.{serveSheet, sheetAlone}
 use Rattle.machine.proofs.Concrete.{ends-of, chose-of}
 use Rattle.nearmiss.proofs.Refuting.{lower-tag}

@@ -5,7 +5,7 @@ use mathlib.Core.Bool.{Bool, true, false, cond}
 use mathlib.Core.List.{[], _∷_, _++_}
 use lib.Dec.{eqb}
 use lib.IntN.{pos}
-use Rattle.config.specs.Cluster.{configOf}
+use Rattle.config.specs.Cluster.{level}
 use Rattle.machine.specs.Sets.{weightOf, quorumOf}
 use Rattle.machine.specs.Parties.{start, read, write, first, second, running, Result}
 use Rattle.machine.specs.Runs.{done, told, answerAt, deskAt}
@@ -13,7 +13,8 @@ use Rattle.machine.specs.Steps.{begin, ask, serve, result, drop, transfer, shar
 use Rattle.machine.specs.Seen.{viewOf}
 use Rattle.machine.specs.Views.{Ends, Chose, restartsMade, gain}
 use Rattle.machine.proofs.Computing.{computing}
-use Rattle.nearmiss.specs.Steps.{runBy, room, trip, sale, sold, returned, written}
+use Rattle.machine.proofs.Blocks.{sale, sold}
+use Rattle.nearmiss.specs.Steps.{runBy, room, trip, returned, written}
 use Rattle.machine.proofs.Concrete.{ends-of, chose-of}
 use Rattle.nearmiss.proofs.Computing.{never-ends}
 
@@ -44,9 +45,9 @@ pub record Across : Type 0 where
   pub read-ends : Ends (viewOf across) 2 22 read 37 (returned sold 1)
   pub read-told : answerAt across 38 ≡ told (returned sold 1)
   -- its two servers are a quorum on its own sheet, and were none before
-  pub heavier : weightOf (configOf 4 1) (deskAt across 2 38 .replica .set) 3 ≡ pos 1333
-  pub quorum-now : quorumOf (configOf 4 1) (deskAt across 2 38 .replica .set) two ≡ true
-  pub no-quorum-before : quorumOf (configOf 4 1) [] two ≡ false
+  pub heavier : weightOf (level 4 1) (deskAt across 2 38 .replica .set) 3 ≡ pos 1333
+  pub quorum-now : quorumOf (level 4 1) (deskAt across 2 38 .replica .set) two ≡ true
+  pub no-quorum-before : quorumOf (level 4 1) [] two ≡ false
 
 pub read-across : Across
 unfolding computing

@@ -7,7 +7,7 @@ use mathlib.Core.Path.{_≡_, refl, ap, _∙_}
 use mathlib.Core.List.{List, [], _∷_}
 use mathlib.Core.Option.{some}
 use borrow.Author.Tests.{lt-leb, le-leb}
-use Rattle.config.specs.Cluster.{configOf, validOf}
+use Rattle.config.specs.Cluster.{level, validOf}
 use Rattle.config.specs.declared.cluster.Config.{Config}
 use Rattle.machine.specs.Parties.{fresh, Message, Task, read, first, running, idle, Desk}
 use Rattle.machine.specs.Runs.{refused, done, Outcome, nth, onDesk, take, step}
@@ -38,7 +38,7 @@ abbrev begun-in : ℕ → Desk
 begun-in k = record { replica = fresh; round = k; activity = running (record { task = read; note = 0; phase = first; heard = []; restarts = 0 }) }
 
 abbrev cluster : Config
-cluster = configOf 3 1
+cluster = level 3 1
 
 -- of any begin that goes on up to a round
 module _ (call : Config → Desk → Task → ℕ → Outcome Message Desk) (c : Config) (last : ℕ)

@@ -3,15 +3,15 @@ use Prim.Native.Nat.{ℕ, suc, _+_}
 use mathlib.Core.Path.{_≡_}
 use mathlib.Core.Bool.{true, false}
 use mathlib.Core.List.{List, [], _∷_, _++_}
-use Rattle.config.specs.Cluster.{configOf, validOf}
+use Rattle.config.specs.Cluster.{level, validOf}
 use Rattle.config.specs.declared.cluster.Config.{Config}
 use Rattle.machine.specs.Parties.{Register, Replica, Message, read, Result, Desk}
 use Rattle.machine.specs.Runs.{State, Answer, opened, step, answerAt}
 use Rattle.machine.specs.Steps.{Step, begin, ask, serve, hear, result, transfer, share, Store, machine, PlainRun, runOf}
 
--- the run of a store, with n servers of which f may crash
+-- the run of a store, with n servers that start level, of which f may crash
 abbrev pub runBy : Store → ℕ → ℕ → List Step → PlainRun
-runBy p n f l = runOf p (configOf n f) l
+runBy p n f l = runOf p (level n f) l
 
 -- room for the longest message
 abbrev pub room : ℕ
@@ -29,14 +29,6 @@ passOn m = transfer 0 2 374 ∷ transfer 1 2 374 ∷ share 0 0 room ∷ share 1 
 abbrev pub readAfter : ℕ → ℕ → List Step
 readAfter d m =
     (begin d read 0 ∷ []) ++ trip d 2 m ++ trip d 2 (m + 2) ++ trip d 4 (m + 4) ++ trip d 2 (m + 6) ++ trip d 4 (m + 8) ++ (result d ∷ [])
-
--- a block of sixteen seats of which fourteen are sold: FF FC
-abbrev pub sale : List ℕ
-sale = 255 ∷ 252 ∷ []
-
--- the register of desk 1's sale, where no write went before
-abbrev pub sold : Register
-sold = record { stamp = 1; desk = 1; value = sale }
 
 -- results: a read that returned a register, a write that wrote one, after so many restarts
 abbrev pub returned : Register → ℕ → Result

@@ -9,7 +9,7 @@ use mathlib.Core.Option.{some}
 use lib.IntN.{pos}
 use lib.ListN.{replicate}
 use Rattle.quorums.specs.Sum.{sum, sumIn, size}
-use Rattle.config.specs.Cluster.{configOf, validOf, aboveOf}
+use Rattle.config.specs.Cluster.{level, validOf, aboveOf}
 use Rattle.config.specs.declared.cluster.Config.{Config}
 use Rattle.config.specs.declared.answer.Verdict.{Verdict}
 use Rattle.ledger.specs.declared.ledger.Ledger.{Ledger}
@@ -29,7 +29,7 @@ use Rattle.runs.proofs.Demand3.{demand3}
 use Rattle.runs.proofs.Consequences.{Weighed, own, own-restarts, server-weighed, desk-weighed, message-weighed}
 
 abbrev two : Config
-two = configOf 2 0
+two = level 2 0
 
 abbrev buffer : List ℕ
 buffer = replicate 32 0

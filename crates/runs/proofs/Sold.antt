@@ -1,4 +1,4 @@
--- A sale, and whatever follows it: what demand 3 says of every list of steps that begins with it. One server (n = 1, f = 0); desk 1 writes two bytes.
+-- A sale, and whatever follows it: what demand 3 says of every list of steps that begins with it. One server (n = 1, f = 0); desk 1 writes `sale`.
 use Prim.Native.Nat.{ℕ, zero, suc, _<_}
 use native.Mathlib.Omega.{arith}
 use mathlib.Core.Path.{_≡_, refl, sym, ap, _∙_, subst}
@@ -7,13 +7,14 @@ use mathlib.Core.Bool.{true, false, true≢false}
 use mathlib.Core.List.{List, [], _∷_, _++_, map}
 use mathlib.Core.Option.{Option, some}
 use lib.ListN.{replicate}
-use Rattle.config.specs.Cluster.{configOf, validOf}
+use Rattle.config.specs.Cluster.{level, validOf}
 use Rattle.config.specs.declared.cluster.Config.{Config}
 use Rattle.machine.specs.Parties.{Register, below, Task, read, write, writes, Result}
 use Rattle.machine.specs.Runs.{nth, told, answerAt}
 use Rattle.machine.specs.Steps.{Step as PlainStep, begin as plain-begin, result as plain-result}
 use Rattle.machine.specs.Views.{Current, Ends, Chose, SameTag, Source, Told}
 use Rattle.machine.proofs.Computing.{computing}
+use Rattle.machine.proofs.Blocks.{sale, sold, full}
 use Rattle.machine.proofs.Tags.{lower-below, same-sym, same-trans, same-register}
 use Rattle.machine.proofs.Performed.{current-unique}
 use Rattle.machine.proofs.Concrete.{ends-of, chose-of, areBytes, typedSteps, typed-before, all-typed}
@@ -26,7 +27,7 @@ use Rattle.runs.proofs.Consequences.{Began, Chosen, current, chose, cho
 -- ---- the sale
 
 abbrev alone : Config
-alone = configOf 1 0
+alone = level 1 0
 
 valid : validOf alone ≡ true
 unfolding validOf
@@ -35,13 +36,7 @@ valid = refl
 abbrev buffer : List ℕ
 buffer = replicate 32 0
 
--- a block of sixteen seats of which fourteen are sold, and its register
-abbrev pub sale : List ℕ
-sale = 255 ∷ 252 ∷ []
-
-abbrev pub sold : Register
-sold = record { stamp = 1; desk = 1; value = sale }
-
+-- what desk 1 is told of it
 abbrev pub sale-told : Result
 sale-told = record { is-write = true; register = sold; restarts = 0 }
 
@@ -211,16 +206,13 @@ module _ (rest : List Step) (rest-typed : Typed rest) where
 
 -- ---- two desks, one after the other
 
--- the other block, of which all sixteen seats are sold, and its register
-abbrev other : List ℕ
-other = 255 ∷ 255 ∷ []
-
+-- the register of desk 2's write
 abbrev over : Register
-over = record { stamp = 2; desk = 2; value = other }
+over = record { stamp = 2; desk = 2; value = full }
 
 -- after the sale desk 2 begins a write, at place 7, has a tag after place 10, and drops it
 abbrev drop-steps : List Step
-drop-steps = begin 2 (write other) 0 ∷ ask 2 0 0 buffer ∷ serve 0 4 0 buffer ∷ hear 2 5 ∷ drop 2 ∷ []
+drop-steps = begin 2 (write full) 0 ∷ ask 2 0 0 buffer ∷ serve 0 4 0 buffer ∷ hear 2 5 ∷ drop 2 ∷ []
 
 drop-typed : Typed drop-steps
 unfolding typedSteps areBytes
@@ -229,14 +221,14 @@ drop-typed = all-typed (map plain drop-steps) refl
 abbrev o : ProgramRun
 o = runOf alone (selling drop-steps)
 
-plain-dropped : Chose (plainView o) 2 7 (write other) over
+plain-dropped : Chose (plainView o) 2 7 (write full) over
 unfolding computing
-plain-dropped = chose-of (plainRun o) 2 7 (write other) 11 over 0 refl refl refl refl refl
+plain-dropped = chose-of (plainRun o) 2 7 (write full) 11 over 0 refl refl refl refl refl
 
 -- it chose, and was dropped; and its tag is above the sale's
-pub dropped-chosen : Chosen o 2 7 (write other) over
+pub dropped-chosen : Chosen o 2 7 (write full) over
 dropped-chosen =
-    chosen (own alone valid (selling drop-steps) (selling-typed drop-steps drop-typed) (λ v. Chose v 2 7 (write other) over) plain-dropped)
+    chosen (own alone valid (selling drop-steps) (selling-typed drop-steps drop-typed) (λ v. Chose v 2 7 (write full) over) plain-dropped)
 
 pub dropped-higher : below sold over ≡ true
-dropped-higher = later-tags drop-steps drop-typed 2 7 (write other) over (omega arith) dropped-chosen .1 refl
+dropped-higher = later-tags drop-steps drop-typed 2 7 (write full) over (omega arith) dropped-chosen .1 refl

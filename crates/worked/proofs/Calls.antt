@@ -7,7 +7,7 @@ use lib.ListN.{replicate}
 use Rattle.quorums.specs.Sum.{sum, all}
 use Rattle.quorums.specs.Difference.{difference}
 use Rattle.quorums.specs.Accounts.{weight, above}
-use Rattle.config.specs.Cluster.{configOf, validOf, serverOf, startOf, totalOf, aboveOf}
+use Rattle.config.specs.Cluster.{level, validOf, serverOf, startOf, totalOf, aboveOf}
 use Rattle.config.specs.Refusals.{refusal}
 use Rattle.config.specs.declared.answer.Refusal.{Refusal}
 use Rattle.config.specs.declared.answer.Number.{Number}
@@ -62,7 +62,7 @@ pub record BadCalls : Type 0 where
   pub most-servers : openOf most 0 0 ≡ refused (refusal 1) blankServer
   pub most-crashes : openOf 5 most 0 ≡ refused (refusal 1) blankServer
   pub most-number : openOf 5 1 most ≡ refused (refusal 1) blankServer
-  pub last-server : openOf 16 7 15 ≡ accepted (freshServer (configOf 16 7) 15)
+  pub last-server : openOf 16 7 15 ≡ accepted (freshServer (level 16 7) 15)
   -- transfer, 11: to itself, to a server ≥ n, of nothing
   pub to-itself : transferOf fresh 0 1 ≡ refused (refusal 11) fresh
   pub past-last : transferOf fresh 5 1 ≡ refused (refusal 11) fresh

@@ -8,7 +8,7 @@ use lib.ListN.{replicate}
 use Rattle.quorums.specs.Sum.{size, sum, sumℤ, all}
 use Rattle.quorums.specs.Difference.{difference}
 use Rattle.quorums.specs.Accounts.{weight, total, weightIn, margin, quorum, above}
-use Rattle.config.specs.Cluster.{configOf, validOf, serverOf, startOf, totalOf, aboveOf, stampBytes}
+use Rattle.config.specs.Cluster.{level, validOf, serverOf, startOf, totalOf, aboveOf, stampBytes}
 use Rattle.config.specs.Refusals.{refusal}
 use Rattle.config.specs.declared.answer.Number.{Number}
 use Rattle.config.specs.declared.answer.Decision.{Decision}
@@ -84,6 +84,10 @@ pub record Reads (j : ℕ) : Type 0 where
   pub sound-bytes : messageOf five (share 1) (sheet-only (added (added freshLedger 0 1 374) 1 j 748)) ≡ sound-share j
   pub sound : check five (sound-share j) ≡ 0
 
+-- case 11's value: of eight seats the first and the third are sold
+abbrev pub twoSold : List ℕ
+twoSold = 0xA0 ∷ []
+
 -- ---- the cases
 
 pub record Cases : Type 0 where
@@ -100,7 +104,7 @@ pub record Cases : Type 0 where
   -- "6: 112 is 10"
   pub case-6 : Gives 16 7 112 (Verdict.Refused (refusal 10))
   -- "7: n=4, two fresh servers aren't a quorum": any two, and any lawful f
-  pub case-7 : (f m : ℕ) → validOf (configOf 4 f) ≡ true → m < 2 ^ 4 → size 4 (named m) ≡ 2 → quorumAnswer (configOf 4 f) freshLedger m ≡ Decision.No
+  pub case-7 : (f m : ℕ) → validOf (level 4 f) ≡ true → m < 2 ^ 4 → size 4 (named m) ≡ 2 → quorumAnswer (level 4 f) freshLedger m ≡ Decision.No
   -- "8: n=5 f=1, after 0 and 1 each give 374 to 2, servers 2 and 4 are"
   pub case-8 : AfterBoth (2 ^ 2 + 2 ^ 4) Decision.Yes
   -- "9: 2 and 0 aren't"
@@ -108,7 +112,7 @@ pub record Cases : Type 0 where
   -- "10: n=5 f=1, a message where 1 gave 748, without 0's 374 to 1, reads 5": to any other server
   pub case-10 : (j : ℕ) → j < 5 → (j ≡ 1 → ⊥) → Reads j
   -- "11: value A0 (hex) has 6 on offer, the empty one 0"
-  pub case-11 : (offerAnswer (0xA0 ∷ []) ≡ Number.Value 6) × (offerAnswer [] ≡ Number.Value 0)
+  pub case-11 : (offerAnswer twoSold ≡ Number.Value 6) × (offerAnswer [] ≡ Number.Value 0)
 
 -- ---- cases 8 and 9, by computation
 

@@ -6,7 +6,7 @@ use borrow.Author.Tests.{ne-eqb, lt-ltb, le-leb}
 use lib.Dec.{ltb}
 use lib.IntN.{pos, _-ℤ_}
 use Rattle.quorums.specs.Difference.{difference}
-use Rattle.config.specs.Cluster.{configOf, validOf, startOf, aboveOf}
+use Rattle.config.specs.Cluster.{level, validOf, startOf, aboveOf}
 use Rattle.config.specs.declared.cluster.Config.{Config}
 use Rattle.config.specs.Refusals.{refusal}
 use Rattle.config.specs.declared.answer.Verdict.{Verdict}
@@ -20,9 +20,9 @@ use Rattle.server.specs.Transfers.{gave, giveOf, transferOf}
 
 -- ---- each test that a fresh server passes
 
-opened : (n f i : ℕ) → validOf (configOf n f) ≡ true → i < n → openOf n f i .server ≡ freshServer (configOf n f) i
+opened : (n f i : ℕ) → validOf (level n f) ≡ true → i < n → openOf n f i .server ≡ freshServer (level n f) i
 unfolding openOf
-opened n f i v h = simp (valid-server (configOf n f) i v h)
+opened n f i v h = simp (valid-server (level n f) i v h)
 
 fresh-fits : (c : Config) (i : ℕ) → validOf c ≡ true → i < c .n → fits (freshServer c i) ≡ true
 unfolding fits
@@ -58,6 +58,6 @@ fresh-gives c i j d v hi hj ne p =
     chosen true = refl
     chosen false = refl
 
-pub floor-decides : (n f d : ℕ) → validOf (configOf n f) ≡ true → 1 ≤ d → (i j : ℕ) → i < n → j < n → (i ≡ j → ⊥)
-    → transferOf (openOf n f i .server) j d .verdict ≡ byFloor (configOf n f) d
-floor-decides n f d v p i j hi hj ne = ap (λ s. transferOf s j d .verdict) (opened n f i v hi) ∙ fresh-gives (configOf n f) i j d v hi hj ne p
+pub floor-decides : (n f d : ℕ) → validOf (level n f) ≡ true → 1 ≤ d → (i j : ℕ) → i < n → j < n → (i ≡ j → ⊥)
+    → transferOf (openOf n f i .server) j d .verdict ≡ byFloor (level n f) d
+floor-decides n f d v p i j hi hj ne = ap (λ s. transferOf s j d .verdict) (opened n f i v hi) ∙ fresh-gives (level n f) i j d v hi hj ne p

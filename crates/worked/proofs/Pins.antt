@@ -5,7 +5,7 @@ use mathlib.Core.Path.{_≡_, refl, _∙_}
 use mathlib.Core.Bool.{Bool}
 use mathlib.Core.List.{List}
 use lib.ListN.{length}
-use Rattle.config.specs.Cluster.{configOf, validOf}
+use Rattle.config.specs.Cluster.{level, validOf}
 use Rattle.machine.specs.Runs.{at, answersOf}
 use Rattle.machine.proofs.Concrete.{areBytes, typedSteps}
 use Rattle.machine.proofs.Pins.{Row, stepsOf, answersIn, alone, aloneBytes, sixteen, sixteenBytes, runIn, pins}
@@ -27,8 +27,8 @@ module _ (lent : ℕ → Bool) where
   unfolding areBytes typedSteps validOf
   program-pins =
       record {
-        alone-answers = answers-shown lent (configOf 1 0) refl (stepsOf alone) refl ∙ pins .alone-answers;
-        alone-bytes = bytes-shown lent (configOf 1 0) refl (stepsOf alone) refl (length alone) ∙ pins .alone-bytes;
-        sixteen-answers = answers-shown lent (configOf 16 7) refl (stepsOf sixteen) refl ∙ pins .sixteen-answers;
-        sixteen-bytes = bytes-shown lent (configOf 16 7) refl (stepsOf sixteen) refl (length sixteen) ∙ pins .sixteen-bytes;
+        alone-answers = answers-shown lent (level 1 0) refl (stepsOf alone) refl ∙ pins .alone-answers;
+        alone-bytes = bytes-shown lent (level 1 0) refl (stepsOf alone) refl (length alone) ∙ pins .alone-bytes;
+        sixteen-answers = answers-shown lent (level 16 7) refl (stepsOf sixteen) refl ∙ pins .sixteen-answers;
+        sixteen-bytes = bytes-shown lent (level 16 7) refl (stepsOf sixteen) refl (length sixteen) ∙ pins .sixteen-bytes;
       }

@@ -8,7 +8,7 @@ use lib.ListN.{replicate, set}
 use Rattle.quorums.specs.Sum.{size, sum, sumℤ, sumIn, all}
 use Rattle.quorums.specs.Difference.{difference}
 use Rattle.quorums.specs.Accounts.{weight, total, weightIn, margin, above}
-use Rattle.config.specs.Cluster.{configOf, validOf, serverOf, startOf, totalOf, aboveOf, leastOf}
+use Rattle.config.specs.Cluster.{level, validOf, serverOf, startOf, totalOf, aboveOf, leastOf}
 use Rattle.config.specs.Answers.{startAnswer, totalAnswer, leastAnswer, aboveAnswer}
 use Rattle.config.specs.declared.cluster.Config.{Config}
 use Rattle.config.specs.Refusals.{refusal}
@@ -31,19 +31,19 @@ most = 2 ^ 64 - 1
 
 -- five servers, of which one may crash
 abbrev pub five : Config
-five = configOf 5 1
+five = level 5 1
 
 -- ---- the cluster: n = 0, n = 17, 2f = n, and both numbers at their ends
 
 pub record BadClusters : Type 0 where
-  pub none : totalAnswer (configOf 0 0) ≡ Number.Refused (refusal 1)
-  pub seventeen : totalAnswer (configOf 17 0) ≡ Number.Refused (refusal 1)
-  pub half : totalAnswer (configOf 4 2) ≡ Number.Refused (refusal 1)
-  pub half-of-most : leastAnswer (configOf 16 8) ≡ Number.Refused (refusal 1)
-  pub most-servers : startAnswer (configOf most 0) 0 ≡ Number.Refused (refusal 1)
-  pub most-crashes : aboveAnswer (configOf 5 most) (pos 1000) ≡ Decision.Refused (refusal 1)
-  pub smallest : totalAnswer (configOf 1 0) ≡ Number.Value 1000
-  pub largest : totalAnswer (configOf 16 7) ≡ Number.Value 16000
+  pub none : totalAnswer (level 0 0) ≡ Number.Refused (refusal 1)
+  pub seventeen : totalAnswer (level 17 0) ≡ Number.Refused (refusal 1)
+  pub half : totalAnswer (level 4 2) ≡ Number.Refused (refusal 1)
+  pub half-of-most : leastAnswer (level 16 8) ≡ Number.Refused (refusal 1)
+  pub most-servers : startAnswer (level most 0) 0 ≡ Number.Refused (refusal 1)
+  pub most-crashes : aboveAnswer (level 5 most) (pos 1000) ≡ Decision.Refused (refusal 1)
+  pub smallest : totalAnswer (level 1 0) ≡ Number.Value 1000
+  pub largest : totalAnswer (level 16 7) ≡ Number.Value 16000
 
 pub bad-clusters : BadClusters
 unfolding totalAnswer leastAnswer startAnswer aboveAnswer validOf serverOf totalOf startOf sum
@@ -83,7 +83,7 @@ pub record BadServers : Type 0 where
   pub named-bit : namedAnswer five (2 ^ 5) ≡ Number.Refused (refusal 1)
   pub named-all : namedAnswer five (2 ^ 5 - 1) ≡ Number.Value 5
   pub nobody : marginAnswer five freshLedger 0 ≡ Signed.Value (negsuc 4999)
-  pub two-of-four : marginAnswer (configOf 4 1) freshLedger 3 ≡ Signed.Value (pos 0)
+  pub two-of-four : marginAnswer (level 4 1) freshLedger 3 ≡ Signed.Value (pos 0)
   pub two-of-five : marginAnswer five freshLedger 3 ≡ Signed.Value (negsuc 999)
 
 pub bad-servers : BadServers
@@ -113,7 +113,7 @@ exchange a b = record { counts = a ∷ b ∷ replicate 14 0; cells = set (set (r
 
 pub record BadTransfers : Type 0 where
   -- 1: the cluster, the giver, a row out of range, a server at the floor, also where nothing is given
-  pub cluster : addAnswer (configOf 4 2) freshLedger 0 1 1 ≡ refused (refusal 1) freshLedger
+  pub cluster : addAnswer (level 4 2) freshLedger 0 1 1 ≡ refused (refusal 1) freshLedger
   pub giver : addAnswer five freshLedger 5 0 1 ≡ refused (refusal 1) freshLedger
   pub range : addAnswer five (gave 1 16001) 2 3 1 ≡ refused (refusal 1) (gave 1 16001)
   pub light : addAnswer five (gave 1 375) 2 3 1 ≡ refused (refusal 1) (gave 1 375)

@@ -5,13 +5,14 @@ use mathlib.Core.Bool.{Bool, false}
 use mathlib.Core.List.{[], _∷_, map}
 use mathlib.Core.Option.{none, some}
 use lib.Dec.{eqb}
-use Rattle.config.specs.Cluster.{configOf, validOf}
+use Rattle.config.specs.Cluster.{validOf}
 use Rattle.machine.specs.Parties.{read, write, start}
 use Rattle.machine.specs.Runs.{nth, done, told}
 use Rattle.machine.specs.Views.{Ends, Chose, restartsMade, gain}
 use Rattle.machine.proofs.Computing.{computing}
+use Rattle.machine.proofs.Blocks.{sale, sold}
 use Rattle.machine.proofs.Concrete.{areBytes, typedSteps}
-use Rattle.nearmiss.specs.Steps.{sale, sold, returned, written}
+use Rattle.nearmiss.specs.Steps.{returned, written}
 use Rattle.nearmiss.proofs.Shown.{across, read-across, droppedWrite, read-dropped, twoRestarts, write-restarted, unwritten, read-unwritten}
 use Rattle.runs.specs.Steps.{hear, hear-lent}
 use Rattle.worked.proofs.Carried.{runFor, seen, view-shown}
@@ -28,7 +29,7 @@ module _ (lent : ℕ → Bool) where
   pub program-across : Across
   unfolding typedSteps areBytes validOf
   program-across =
-      let same = view-shown lent (configOf 4 1) refl (across .steps) refl in
+      let same = view-shown lent (across .config) refl (across .steps) refl in
       record {
         write-ends = subst (λ v. Ends v 1 0 (write sale) 18 (written sold 0)) same (read-across .write-ends);
         weight-moves = subst (λ v. v .answers 19 ≡ done) same (read-across .weight-moves);
@@ -46,7 +47,7 @@ module _ (lent : ℕ → Bool) where
   pub program-dropped : Dropped
   unfolding typedSteps areBytes validOf
   program-dropped =
-      let same = view-shown lent (configOf 3 1) refl (droppedWrite .steps) refl in
+      let same = view-shown lent (droppedWrite .config) refl (droppedWrite .steps) refl in
       record {
         write-chose = subst (λ v. Chose v 1 0 (write sale) sold) same (read-dropped .write-chose);
         write-dropped = subst (λ v. v .answers 9 ≡ done) same (read-dropped .write-dropped);
@@ -67,7 +68,7 @@ module _ (lent : ℕ → Bool) where
   pub program-restarted : Restarted
   unfolding typedSteps areBytes validOf computing
   program-restarted =
-      let same = view-shown lent (configOf 3 1) refl (twoRestarts .steps) refl in
+      let same = view-shown lent (twoRestarts .config) refl (twoRestarts .steps) refl in
       record {
         write-ends = subst (λ v. Ends v 1 2 (write sale) 21 (written sold 2)) same (write-restarted .write-ends);
         write-told = subst (λ v. v .answers 22 ≡ told (written sold 2)) same (write-restarted .write-told);
@@ -85,7 +86,7 @@ module _ (lent : ℕ → Bool) where
   pub program-unwritten : Unwritten
   unfolding typedSteps areBytes validOf
   program-unwritten =
-      let same = view-shown lent (configOf 3 1) refl (unwritten .steps) refl in
+      let same = view-shown lent (unwritten .config) refl (unwritten .steps) refl in
       record {
         read-ends = subst (λ v. Ends v 1 0 read 12 (returned start 0)) same (read-unwritten .read-ends);
         read-told = subst (λ v. v .answers 13 ≡ told (returned start 0)) same (read-unwritten .read-told);
@@ -119,5 +120,6 @@ program-lent =
       write-told = program-restarted everyOther .write-told;
       told-by-value = program-restarted noneLent .write-told;
       same =
-          sym (view-shown everyOther (configOf 3 1) refl (twoRestarts .steps) refl) ∙ view-shown noneLent (configOf 3 1) refl (twoRestarts .steps) refl;
+          sym (view-shown everyOther (twoRestarts .config) refl (twoRestarts .steps) refl)
+          ∙ view-shown noneLent (twoRestarts .config) refl (twoRestarts .steps) refl;
     }

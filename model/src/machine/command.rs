@@ -33,6 +33,11 @@ pub enum Command<M> {
 }
 
 impl<M> Command<M> {
+    /// The line that opens a house of n and f whose servers start level.
+    pub fn level(n: u64, f: u64) -> Command<M> {
+        Command::House { n, f }
+    }
+
     /// The same command, its message named in another way, if it has one.
     pub fn with_message<N>(&self, name: impl FnOnce(&M) -> Option<N>) -> Option<Command<N>> {
         Some(match self {

@@ -30,7 +30,7 @@ pub fn draw_damaged(
     pace.desks.truncate(4);
     let (n, f) = (pace.n, pace.f);
     let mut player = Player::new(random, pace, store);
-    player.give(Command::House { n, f });
+    player.give(Command::level(n, f));
     while player.goes_on() {
         if player.random.one_in(2) {
             player.happen();

@@ -18,7 +18,7 @@ pub fn draw(seed: u64, number: u64, store: &mut dyn Store) -> Run {
     if player.pace.early {
         early(&mut player);
     }
-    player.give(Command::House { n, f });
+    player.give(Command::level(n, f));
     if player.pace.desks.len() >= MOST_DESKS {
         for desk in player.pace.desks.clone() {
             player.give(Command::RecordDesk { desk });
@@ -31,7 +31,7 @@ pub fn draw(seed: u64, number: u64, store: &mut dyn Store) -> Run {
         }
         // Seldom a new cluster takes the place of the old.
         if player.random.one_in(2_000) {
-            player.give(Command::House { n, f });
+            player.give(Command::level(n, f));
         }
     }
     player.finish()
@@ -73,7 +73,7 @@ fn early(player: &mut Player) {
         Command::Crash { server },
         Command::RecordServer { server },
         Command::RecordDesk { desk },
-        Command::House { n: 0, f: 0 },
+        Command::level(0, 0),
     ];
     for command in commands {
         if player.random.one_in(2) {

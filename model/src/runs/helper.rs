@@ -62,7 +62,7 @@ impl Player<'_> {
             2 => self.past_bounds(),
             3 => {
                 let (n, f) = bad_cluster(&mut self.random);
-                self.give(Command::House { n, f });
+                self.give(Command::level(n, f));
             }
             4 => self.show(),
             _ => self.of_message(),

@@ -51,7 +51,7 @@ pub struct Player<'a> {
 
 impl<'a> Player<'a> {
     pub fn new(random: Random, pace: Pace, store: &'a mut dyn Store) -> Player<'a> {
-        let config = Config::new(pace.n, pace.f).expect("the pair is one of the 72");
+        let config = Config::level(pace.n, pace.f);
         Player {
             random,
             pace,

@@ -15,7 +15,7 @@ const MOST_TRANSFERS: u64 = 65_535;
 /// The run's script.
 pub fn spent() -> Vec<Entry> {
     let mut script = Script::default();
-    script.put(Command::House { n: 2, f: 0 });
+    script.put(Command::level(2, 0));
     for made in 0..MOST_TRANSFERS {
         if made % SPARE == 0 && made > 0 {
             script.give(0, 1, 1); // 10: the floor is reached
