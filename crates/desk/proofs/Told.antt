@@ -1,7 +1,7 @@
 -- What the answers of the parts of a call tell: of a join, of a server that is marked, and of hear at each of its tests.
 use Prim.Native.Nat.{ℕ}
 use mathlib.Core.Path.{_≡_, refl}
-use mathlib.Core.Bool.{Bool, true, false, cond}
+use mathlib.Core.Bool.{Bool, true, false, cond, not}
 use mathlib.Core.List.{List}
 use borrow.Author.Tests.{eq-eqb, ne-eqb}
 use Rattle.config.specs.Cluster.{validOf}
@@ -13,50 +13,32 @@ use Rattle.ledger.specs.Joins.{lacks}
 use Rattle.message.specs.declared.envelope.Envelope.{Envelope}
 use Rattle.message.specs.declared.answer.Received.{Received}
 use Rattle.replica.specs.declared.replica.Replica.{Replica}
-use Rattle.replica.specs.declared.replica.Joined.{Joined}
-use Rattle.replica.specs.Replicas.{joinable, join, joinAnswer, accepted as joined, refused as notJoined}
+use Rattle.replica.specs.Replicas.{joinable, join}
 use Rattle.message.specs.Answers.{receiveOf}
-use Rattle.replica.proofs.Told.{accepted-told, refused-told}
 use Rattle.desk.specs.declared.record.Desk.{Desk}
 use Rattle.desk.specs.Desks.{fits}
-use Rattle.desk.specs.Hears.{accepted, late, refused, stray, timely, clashes, joinOf, restartOf, marked, chooseOf, finished, markOf, hearFields, hearOf}
+use Rattle.desk.specs.Hears.{accepted, late, refused, stray, timely, clashes, restartOf, marked, chooseOf, finished, markOf, hearFields, hearOf}
 use Rattle.desk.proofs.Heeded.{waiting}
 
 -- ---- a join
 
 module _ (x : Desk) (r : Replica) where
-  -- what lacks a transfer of the desk's is refused
-  pub join-lacking : lacks (r .ledger) (x .replica .ledger) ≡ true → notJoined (refusal 6) (x .replica) ≡ joinOf x r
-  unfolding joinOf clashes
-  join-lacking l = rw l (by-test (joinable (x .config) (x .replica) r))
+  -- 6 for what lacks a transfer of the desk's; of what lacks none, the replicas decide
+  pub clash-lacking : lacks (r .ledger) (x .replica .ledger) ≡ true → clashes x r ≡ true
+  unfolding clashes
+  clash-lacking l = rw l (by-test (joinable (x .config) (x .replica) r))
     where
-      by-test : (j : Bool)
-          → notJoined (refusal 6) (x .replica)
-          ≡ cond (cond j true true) (notJoined (refusal 6) (x .replica)) (joined (join (x .replica) r))
+      by-test : (j : Bool) → cond j true true ≡ true
       by-test true = refl
       by-test false = refl
 
-  -- of what lacks none, the replicas decide
-  pub join-rest : validOf (x .config) ≡ true → lacks (r .ledger) (x .replica .ledger) ≡ false
-      → joinAnswer (x .config) (x .replica) r ≡ joinOf x r
-  unfolding joinAnswer joinOf clashes
-  join-rest v l = rw (v, l) (by-test (joinable (x .config) (x .replica) r))
+  pub clash-rest : (j : Bool) → lacks (r .ledger) (x .replica .ledger) ≡ false → joinable (x .config) (x .replica) r ≡ j → clashes x r ≡ not j
+  unfolding clashes
+  clash-rest j l e = rw (l, e) (by-test j)
     where
-      by-test : (j : Bool)
-          → cond j (joined (join (x .replica) r)) (notJoined (refusal 6) (x .replica))
-          ≡ cond (cond j false true) (notJoined (refusal 6) (x .replica)) (joined (join (x .replica) r))
+      by-test : (j : Bool) → cond j false true ≡ not j
       by-test true = refl
       by-test false = refl
-
-  -- what is accepted does not clash, and is the replicas together; what is refused clashes
-  module _ (y : Joined) (d : y ≡ joinOf x r) where
-    pub join-told : y .verdict ≡ Verdict.Accepted → (clashes x r ≡ false) × (y .replica ≡ join (x .replica) r)
-    unfolding joinOf
-    join-told v = accepted-told (clashes x r) (x .replica) (join (x .replica) r) y d v
-
-    pub join-refused : (k : Refusal) → y .verdict ≡ Verdict.Refused k → clashes x r ≡ true
-    unfolding joinOf
-    join-refused k v = refused-told (clashes x r) (x .replica) (join (x .replica) r) y d k v
 
 -- ---- a server that is marked
 

@@ -13,9 +13,8 @@ use Rattle.ledger.specs.Joins.{lacks}
 use Rattle.message.specs.declared.envelope.Envelope.{Envelope}
 use Rattle.replica.specs.declared.register.Register.{Register}
 use Rattle.replica.specs.declared.replica.Replica.{Replica}
-use Rattle.replica.specs.declared.replica.Joined.{Joined}
 use Rattle.replica.specs.Values.{emptyValue}
-use Rattle.replica.specs.Replicas.{joinable, join, accepted as joined, refused as notJoined}
+use Rattle.replica.specs.Replicas.{joinable, join}
 use Rattle.message.specs.Envelopes.{reply}
 use Rattle.message.specs.Answers.{receiveOf}
 use Rattle.desk.specs.declared.operation.Operation.{Operation}
@@ -49,10 +48,6 @@ timely x e = cond (eqb (x .operation .mode) running) (eqb (e .round) (x .round))
 -- 6: the pairs don't join, or the reply's sheet lacks a transfer of the desk's
 unfoldable pub clashes : Desk → Replica → Bool
 clashes x r = cond (joinable (x .config) (x .replica) r) (lacks (r .ledger) (x .replica .ledger)) true
-
--- what the desk holds, joined with r, or 6
-unfoldable pub joinOf : Desk → Replica → Joined
-joinOf x r = cond (clashes x r) (notJoined (refusal 6) (x .replica)) (joined (join (x .replica) r))
 
 -- ---- a larger sheet
 

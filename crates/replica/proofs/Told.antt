@@ -15,7 +15,7 @@ use Rattle.ledger.proofs.Checks.{accepted-not-refused}
 use Rattle.replica.specs.declared.replica.Replica.{Replica}
 use Rattle.replica.specs.declared.replica.Joined.{Joined}
 use Rattle.replica.specs.Registers.{registerFits}
-use Rattle.replica.specs.Replicas.{fits, accepted as together, refused as apart}
+use Rattle.replica.specs.Replicas.{fits, joinable, join, joinAnswer, accepted as together, refused as apart}
 
 -- what `check` answers
 abbrev checked : Bool → Bool → Bool → Verdict
@@ -75,18 +75,26 @@ merge-refused c a b r k v e t = by-tests (joins a b) (aboveFloor c (joined a b))
     by-tests true false d = refl
     by-tests false f d = refl
 
--- A party's join: where a test holds it is refused, and a stays as it was; otherwise it is p.
-module _ (b : Bool) (a p : Replica) (x : Joined) (e : x ≡ cond b (apart (refusal 6) a) (together p)) where
-  pub accepted-told : x .verdict ≡ Verdict.Accepted → (b ≡ false) × (x .replica ≡ p)
-  accepted-told t = by-test b e
-    where
-      by-test : (b : Bool) → x ≡ cond b (apart (refusal 6) a) (together p) → (b ≡ false) × (x .replica ≡ p)
-      by-test true d = accepted-not-refused _ (sym t ∙ ap (λ y. y .verdict) d)
-      by-test false d = (refl, ap (λ y. y .replica) d)
+-- What the join of two replicas answers for a cluster that is one: what is accepted joins, and is both together; what is refused does not join.
+module _ (c : Config) (a b : Replica) (x : Joined) (v : validOf c ≡ true) (e : x ≡ joinAnswer c a b) where
+  -- by whether they join
+  abbrev answered : Bool → Type 0
+  answered j = x ≡ cond j (together (join a b)) (apart (refusal 6) a)
 
-  pub refused-told : (k : Refusal) → x .verdict ≡ Verdict.Refused k → b ≡ true
-  refused-told k t = by-test b e
+  by-joining : answered (joinable c a b)
+  unfolding joinAnswer
+  by-joining = rw v at e
+
+  pub joined-told : x .verdict ≡ Verdict.Accepted → (joinable c a b ≡ true) × (x .replica ≡ join a b)
+  joined-told t = by-test (joinable c a b) by-joining
     where
-      by-test : (b : Bool) → x ≡ cond b (apart (refusal 6) a) (together p) → b ≡ true
-      by-test true d = refl
-      by-test false d = accepted-not-refused k (sym (ap (λ y. y .verdict) d) ∙ t)
+      by-test : (j : Bool) → answered j → (j ≡ true) × (x .replica ≡ join a b)
+      by-test true d = (refl, ap (λ y. y .replica) d)
+      by-test false d = accepted-not-refused _ (sym t ∙ ap (λ y. y .verdict) d)
+
+  pub joined-refused : (k : Refusal) → x .verdict ≡ Verdict.Refused k → joinable c a b ≡ false
+  joined-refused k t = by-test (joinable c a b) by-joining
+    where
+      by-test : (j : Bool) → answered j → j ≡ false
+      by-test true d = accepted-not-refused k (sym (ap (λ y. y .verdict) d) ∙ t)
+      by-test false d = refl

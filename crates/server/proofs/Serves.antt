@@ -3,7 +3,7 @@
 -- carries.
 use Prim.Native.Nat.{ℕ}
 use native.Mathlib.Omega.{arith}
-use mathlib.Core.Path.{_≡_, refl, sym, ap, _∙_}
+use mathlib.Core.Path.{_≡_, refl, sym, ap, ap₂, _∙_}
 use mathlib.Core.Bool.{Bool, true, false, cond}
 use mathlib.Core.List.{List}
 use borrow.Author.Tests.{lt-ltb, eq-eqb, ne-eqb}
@@ -105,12 +105,13 @@ module _ (s : Server) (e : Envelope) (r : Replica) (t : Typed s) (f : fits s ≡
         (reply-lawful s e f (p .envelope-lawful) k) (held-fits c) out at
 
     -- the writer's answer n, and the buffer b after it
-    module _ (after : Replica) (n : Number) (b : List ℕ)
+    module _ (g : Envelope) (after : Replica) (n : Number) (b : List ℕ)
+        (q : g ≡ replyEnvelope s e)
         (a : after ≡ join (s .replica) r)
-        (answers : n ≡ writeOf (s .config) (replyEnvelope s e) after out at .answer)
-        (leaves : b ≡ writeOf (s .config) (replyEnvelope s e) after out at .out) where
-      written-is : writeOf (s .config) (replyEnvelope s e) after out at ≡ place (replyMessage (joinedServer s r) e) out at
-      written-is = ap (λ x. writeOf (s .config) (replyEnvelope s e) x out at) a ∙ sent
+        (answers : n ≡ writeOf (s .config) g after out at .answer)
+        (leaves : b ≡ writeOf (s .config) g after out at .out) where
+      written-is : writeOf (s .config) g after out at ≡ place (replyMessage (joinedServer s r) e) out at
+      written-is = ap₂ (λ h x. writeOf (s .config) h x out at) q a ∙ sent
 
       answer-is : n ≡ place (replyMessage (joinedServer s r) e) out at .answer
       answer-is = answers ∙ ap (λ (w : Written). w .answer) written-is

@@ -1,7 +1,6 @@
 -- What the answers of the parts of a call tell: of a join, and of serve at each of its tests.
-use Prim.Native.Nat.{ℕ, _≤_}
+use Prim.Native.Nat.{ℕ}
 use mathlib.Core.Path.{_≡_, refl, sym, ap, _∙_}
-use borrow.Author.Tests.{le-ltb}
 use mathlib.Core.Bool.{Bool, true, false, cond, not, false≢true}
 use mathlib.Core.List.{List}
 use lib.Dec.{eqb, ltb}
@@ -17,42 +16,25 @@ use Rattle.message.specs.Answers.{fits as room, place, receiveOf}
 use Rattle.message.specs.declared.envelope.Envelope.{Envelope}
 use Rattle.message.specs.declared.answer.Received.{Received}
 use Rattle.replica.specs.declared.replica.Replica.{Replica}
-use Rattle.replica.specs.declared.replica.Joined.{Joined}
-use Rattle.replica.specs.Replicas.{joinable, join, joinAnswer, accepted, refused as notJoined}
-use Rattle.replica.proofs.Told.{accepted-told, refused-told}
+use Rattle.replica.specs.Replicas.{joinable}
 use Rattle.server.specs.declared.record.Server.{Server}
 use Rattle.server.specs.declared.serve.Served.{Served}
 use Rattle.server.specs.Servers.{fits}
-use Rattle.server.specs.Serves.{Outcome, refuse, refused, stray, clashes, joinOf, joinedServer, replyMessage, replyOf, serveFields, serveOf}
+use Rattle.server.specs.Serves.{Outcome, refuse, refused, stray, clashes, joinedServer, replyMessage, replyOf, serveFields, serveOf}
 
 -- ---- a join
 
--- where the server's own row is no reason to refuse, the replicas decide
-pub join-rest : (s : Server) (r : Replica)
-    → validOf (s .config) ≡ true
-    → countOf (r .ledger) (s .number) ≤ countOf (s .replica .ledger) (s .number)
-    → joinAnswer (s .config) (s .replica) r ≡ joinOf s r
-unfolding joinAnswer joinOf clashes
-join-rest s r v l = rw (v, le-ltb _ _ l) (by-test (joinable (s .config) (s .replica) r))
-  where
-    by-test : (j : Bool)
-        → cond j (accepted (join (s .replica) r)) (notJoined (refusal 6) (s .replica))
-        ≡ cond (not j) (notJoined (refusal 6) (s .replica)) (accepted (join (s .replica) r))
-    by-test true = refl
-    by-test false = refl
+-- 6 where the other knows more of the server's own transfers; where it does not, the replicas decide
+pub clash-own : (s : Server) (r : Replica) → ltb (countOf (s .replica .ledger) (s .number)) (countOf (r .ledger) (s .number)) ≡ true → clashes s r ≡ true
+unfolding clashes
+clash-own s r m = rw m refl
 
--- what is accepted does not clash, and is the replicas together
-pub join-told : (s : Server) (r : Replica) (x : Joined)
-    → x ≡ joinOf s r
-    → x .verdict ≡ Verdict.Accepted
-    → (clashes s r ≡ false) × (x .replica ≡ join (s .replica) r)
-unfolding joinOf
-join-told s r x e t = accepted-told (clashes s r) (s .replica) (join (s .replica) r) x e t
-
--- what is refused clashes
-pub join-refused : (s : Server) (r : Replica) (x : Joined) (k : Refusal) → x ≡ joinOf s r → x .verdict ≡ Verdict.Refused k → clashes s r ≡ true
-unfolding joinOf
-join-refused s r x k e t = refused-told (clashes s r) (s .replica) (join (s .replica) r) x e k t
+pub clash-rest : (s : Server) (r : Replica) (j : Bool)
+    → ltb (countOf (s .replica .ledger) (s .number)) (countOf (r .ledger) (s .number)) ≡ false
+    → joinable (s .config) (s .replica) r ≡ j
+    → clashes s r ≡ not j
+unfolding clashes
+clash-rest s r j m e = rw (m, e) refl
 
 -- a replica that does not clash joins with the server's
 pub clear-joinable : (s : Server) (r : Replica) → clashes s r ≡ false → joinable (s .config) (s .replica) r ≡ true

@@ -12,8 +12,7 @@ use Rattle.ledger.specs.Ledgers.{countOf}
 use Rattle.message.specs.Answers.{fits as room, place, receiveOf}
 use Rattle.message.specs.declared.envelope.Envelope.{Envelope}
 use Rattle.replica.specs.declared.replica.Replica.{Replica}
-use Rattle.replica.specs.declared.replica.Joined.{Joined}
-use Rattle.replica.specs.Replicas.{joinable, join, accepted, refused as notJoined}
+use Rattle.replica.specs.Replicas.{joinable, join}
 use Rattle.message.specs.Envelopes.{request, reply, share, messageOf}
 use Rattle.server.specs.declared.record.Server.{Server}
 use Rattle.server.specs.declared.serve.Served.{Served}
@@ -40,10 +39,6 @@ stray s e = cond (eqb (e .kind) share) false (cond (eqb (e .kind) request) (not 
 -- 6: a row of the server's own with a count above its own, or pairs that don't join
 unfoldable pub clashes : Server → Replica → Bool
 clashes s r = cond (ltb (countOf (s .replica .ledger) (s .number)) (countOf (r .ledger) (s .number))) true (not (joinable (s .config) (s .replica) r))
-
--- what the server holds, joined with r, or 6
-unfoldable pub joinOf : Server → Replica → Joined
-joinOf s r = cond (clashes s r) (notJoined (refusal 6) (s .replica)) (accepted (join (s .replica) r))
 
 -- the server after joining
 abbrev pub joinedServer : Server → Replica → Server

@@ -17,10 +17,6 @@ use Rattle.writer.specs.declared.outline.Outline.{Outline}
 abbrev pub Counted : List ℕ → List ℕ → Type 0
 Counted counts cells = (i : ℕ) → i < 16 → getD counts i 0 ≡ 0 → sum 16 (λ j. getD cells (i * 16 + j) 0) ≡ 0
 
--- the replica with these counts, cells and register
-abbrev pub replicaIn : List ℕ → List ℕ → Register → Replica
-replicaIn counts cells g = record { ledger = record { counts = counts; cells = cells }; register = g }
-
 -- the size, where `rows` is the row map, and the rows have `bytes` bytes
 unfoldable pub sizeOf : Config → Envelope → Register → ℕ → ℕ → ℕ
 sizeOf c e g rows bytes =

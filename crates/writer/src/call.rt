@@ -11,8 +11,10 @@ use message::Envelope;
 use replica::Register;
 use replica::Replica;
 ghost use mathlib.Core.Path.{_≡_};
+ghost use lib.ListN.{length};
 ghost use Rattle.replica.specs.Parts.{replicaOf};
-ghost use Rattle.message.specs.Answers.{writeOf};
+ghost use Rattle.message.specs.Answers.{verdictOf, writeOf};
+ghost use Rattle.message.specs.Faults.{faultOf};
 
 // Writes a message into a buffer from a place on, and hands back the place after it. Refused are what the reader would refuse, by its number,
 // and then a message that does not fit (13); the buffer is then as it was.
@@ -49,7 +51,25 @@ pub fn write_lent<'a>(
 ) -> Number
     ensures { λ r. ⌜ (r ≡ writeOf config envelope (replicaOf (now (counts .entry)) (now (cells .entry)) register) (now (out .entry)) at .answer) × (now (out .exit) ≡ writeOf config envelope (replicaOf (now (counts .entry)) (now (cells .entry)) register) (now (out .entry)) at .out) ⌝ }
 {
-    if let Verdict::Refused(r) = fault(config, envelope, counts, cells, register) {
+    let verdict = fault(config, envelope, counts, cells, register);
+    write_judged(verdict, config, envelope, counts, cells, register, out, at)
+}
+
+// The same, where the reader's verdict has been found.
+fn write_judged<'a>(
+    verdict: Verdict,
+    config: Config,
+    envelope: Envelope,
+    counts: &'a [u16],
+    cells: &'a [u32],
+    register: Register,
+    out: &mut [u8],
+    at: usize,
+) -> Number
+    requires { ⌜ (length (now counts) ≡ 16) × (length (now cells) ≡ 256) × (verdict ≡ verdictOf (faultOf config envelope (replicaOf (now counts) (now cells) register))) ⌝ }
+    ensures { λ r. ⌜ (r ≡ writeOf config envelope (replicaOf (now (counts .entry)) (now (cells .entry)) register) (now (out .entry)) at .answer) × (now (out .exit) ≡ writeOf config envelope (replicaOf (now (counts .entry)) (now (cells .entry)) register) (now (out .entry)) at .out) ⌝ }
+{
+    if let Verdict::Refused(r) = verdict {
         return Number::Refused(r);
     }
     let rows = mark_rows(counts, cells);

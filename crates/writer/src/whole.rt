@@ -12,9 +12,9 @@ ghost use Prim.Native.Nat.{ℕ, _*_, _+_, _≤_};
 ghost use lib.ListN.{length, getD};
 ghost use Rattle.ledger.specs.Tables.{table};
 ghost use Rattle.format.specs.Table.{cellMap, rowMap, fieldMapOf};
+ghost use Rattle.replica.specs.Parts.{replicaOf};
 ghost use Rattle.message.specs.Envelopes.{fieldsOf, messageOf};
 ghost use Rattle.message.specs.Answers.{over};
-ghost use Rattle.writer.specs.Outlines.{replicaIn};
 
 // Counts and cells are lent beside the register: taken out of a replica here, they would be copied.
 pub(crate) fn fill<'a>(
@@ -27,8 +27,8 @@ pub(crate) fn fill<'a>(
     map: u64,
     rows: Rows,
 ) -> usize
-    requires { ⌜ (length (now counts) ≡ 16) × (length (now cells) ≡ 256) × (register .value .length ≤ 64) × (map ≡ fieldMapOf (fieldsOf envelope (replicaIn (now counts) (now cells) register))) × (rows .map ≡ rowMap (λ i. getD (now counts) i 0) (λ i j. getD (now cells) (i * 16 + j) 0)) × (rows .maps ≡ table 16 (λ i. cellMap (λ j. getD (now cells) (i * 16 + j) 0))) × (length (messageOf config envelope (replicaIn (now counts) (now cells) register)) ≤ length (now out)) ⌝ }
-    ensures { λ r. ⌜ (now (out .exit) ≡ over (messageOf config envelope (replicaIn (now (counts .entry)) (now (cells .entry)) register)) (now (out .entry))) × (r ≡ length (messageOf config envelope (replicaIn (now (counts .entry)) (now (cells .entry)) register))) ⌝ }
+    requires { ⌜ (length (now counts) ≡ 16) × (length (now cells) ≡ 256) × (register .value .length ≤ 64) × (map ≡ fieldMapOf (fieldsOf envelope (replicaOf (now counts) (now cells) register))) × (rows .map ≡ rowMap (λ i. getD (now counts) i 0) (λ i j. getD (now cells) (i * 16 + j) 0)) × (rows .maps ≡ table 16 (λ i. cellMap (λ j. getD (now cells) (i * 16 + j) 0))) × (length (messageOf config envelope (replicaOf (now counts) (now cells) register)) ≤ length (now out)) ⌝ }
+    ensures { λ r. ⌜ (now (out .exit) ≡ over (messageOf config envelope (replicaOf (now (counts .entry)) (now (cells .entry)) register)) (now (out .entry))) × (r ≡ length (messageOf config envelope (replicaOf (now (counts .entry)) (now (cells .entry)) register))) ⌝ }
 {
     let maps = rows.maps;
     let note = envelope.note as u64;

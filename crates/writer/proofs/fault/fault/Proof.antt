@@ -10,9 +10,10 @@ use Rattle.config.specs.declared.cluster.Config.{Config}
 use Rattle.config.specs.declared.answer.Verdict.{Verdict}
 use Rattle.ledger.specs.declared.ledger.Ledger.{Ledger}
 use Rattle.ledger.specs.Checks.{bounded, aboveFloor, checkAnswer}
-use Rattle.ledger.proofs.Checks.{check-floor, check-bounds}
-use Rattle.message.specs.Cursors.{within}
+use Rattle.replica.specs.declared.replica.Replica.{Replica}
+use Rattle.replica.specs.Parts.{replicaOf}
 use Rattle.replica.specs.Registers.{registerFits}
+use Rattle.message.specs.Cursors.{within}
 use Rattle.message.specs.Answers.{verdictOf}
 use Rattle.message.specs.Faults.{kindFits, faultOf}
 use Rattle.writer.proofs.fault.fault.Statement.{statement}
@@ -21,7 +22,10 @@ use Rattle.writer.proofs.fault.fault.Tie as tie
 -- each test that was passed, from the next one, and the function's entry
 
 abbrev start : tie.Else1 → tie.Start
-start c = c .before .before .before .before
+start c = c .before .before
+
+abbrev carried : tie.Start → Replica
+carried s = replicaOf (s .args .counts .now) (s .args .cells .now) (s .args .register)
 
 abbrev unkind : tie.Then3 → tie.Else1
 unkind c = c .before .before .before .before
@@ -57,17 +61,18 @@ fields c = sym (c .before .kind-fits .ensures) ∙ not-false _ (c .if4 .left)
 
 -- past the tests of the envelope, the register decides, and then the ledger
 enveloped : (c : tie.Else5) →
-    let a = entry c .args in
-    faultOf (a .config) (a .envelope) (a .replica)
-    ≡ cond (registerFits (a .config) (a .replica .register))
-    (cond (bounded (a .config) (a .replica .ledger)) (cond (aboveFloor (a .config) (a .replica .ledger)) 0 5) 4)
+    let s = entry c in
+    faultOf (s .args .config) (s .args .envelope) (carried s)
+    ≡ cond (registerFits (s .args .config) (s .args .register))
+    (cond (bounded (s .args .config) (carried s .ledger)) (cond (aboveFloor (s .args .config) (carried s .ledger)) 0 5) 4)
     4
 unfolding faultOf
 enveloped c = let d = fourth c in simp (valid (first (third d)), kind (third d), fields d, lt-ltb _ _ (c .if5 .left))
 
 passed : (c : tie.Else6) →
-    let a = entry (fifth c) .args in
-    faultOf (a .config) (a .envelope) (a .replica) ≡ cond (bounded (a .config) (a .replica .ledger)) (cond (aboveFloor (a .config) (a .replica .ledger)) 0 5) 4
+    let s = entry (fifth c) in
+    faultOf (s .args .config) (s .args .envelope) (carried s)
+    ≡ cond (bounded (s .args .config) (carried s .ledger)) (cond (aboveFloor (s .args .config) (carried s .ledger)) 0 5) 4
 passed c = enveloped (fifth c) ∙ simp (sym (c .before .fits2 .ensures) ∙ not-false _ (c .if6 .left))
 
 -- the check of a ledger, as a number's verdict
@@ -118,36 +123,17 @@ returns-6 : tie.Need-returns-6
 unfolding verdictOf
 returns-6 c = rw (enveloped (c .before .before)) (simp (sym (c .before .fits2 .ensures) ∙ not-true _ (c .if6 .taken)))
 
-check-bounds-requires : tie.Need-check-bounds-requires
-check-bounds-requires c κs = search needs
-
-enum-told : tie.Need-enum-told
-enum-told c = search needs
-
-check-floor-requires : tie.Need-check-floor-requires
-check-floor-requires c κs = search needs
-
-enum-known-r : tie.Need-enum-known-r
-enum-known-r c = search needs
+check-lent-requires : tie.Need-check-lent-requires
+check-lent-requires c κs = search needs
 
 -- the verdict on the ledger is what its own check answers
-ledger-verdict : (c : tie.Else6) →
-    let a = entry (fifth c) .args in
-    checkAnswer (a .config) (a .replica .ledger) ≡ verdictOf (faultOf (a .config) (a .envelope) (a .replica))
-ledger-verdict c =
-    let a = entry (fifth c) .args in
-    checked (a .config) (a .replica .ledger) (valid (first (third (fourth (fifth c))))) ∙ sym (ap verdictOf (passed c))
-
 returns-7 : tie.Need-returns-7
 returns-7 c =
-    let told = c .before in
-    let t = told .before .before .before in
-    c .check-floor .ensures ∙ check-floor _ _ (sym (told .before .before .check-bounds .ensures) ∙ told .enum-told .given .1) ∙ ledger-verdict t
-
-returns-8 : tie.Need-returns-8
-returns-8 c =
-    let check = c .before .before .before in
-    check-bounds _ _ _ (sym (check .check-bounds .ensures) ∙ c .before .r .given .1) ∙ ledger-verdict (check .before)
+    let e = c .before in
+    let s = entry (fifth e) in
+    c .check-lent .ensures
+    ∙ checked (s .args .config) (carried s .ledger) (valid (first (third (fourth (fifth e)))))
+    ∙ sym (ap verdictOf (passed e))
 
 pub fault-spec : {M : Type 1} → statement M
 fault-spec =
@@ -163,9 +149,5 @@ fault-spec =
     returns-5
     fits-requires
     returns-6
-    check-bounds-requires
-    enum-told
-    check-floor-requires
-    enum-known-r
-    returns-7
-    returns-8)
+    check-lent-requires
+    returns-7)

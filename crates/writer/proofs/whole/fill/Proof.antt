@@ -11,8 +11,8 @@ use Rattle.format.specs.Bytes.{number, series}
 use Rattle.format.specs.Table.{head, register, rows}
 use Rattle.replica.specs.declared.replica.Replica.{Replica}
 use Rattle.replica.specs.Values.{bytesOf}
+use Rattle.replica.specs.Parts.{replicaOf}
 use Rattle.message.specs.Envelopes.{messageOf}
-use Rattle.writer.specs.Outlines.{replicaIn}
 use Rattle.writer.proofs.Places.{Written, written-none, written-room, written-next, written-front}
 use Rattle.writer.proofs.Messages.{message-written}
 use Rattle.writer.proofs.whole.fill.Statement.{statement}
@@ -21,7 +21,7 @@ use Rattle.writer.proofs.whole.fill.Tie as tie
 -- the fields in order, and that the first n are written
 
 abbrev carrying : tie.Start → Replica
-carrying s = replicaIn (now (s .args .counts)) (now (s .args .cells)) (s .args .register)
+carrying s = replicaOf (now (s .args .counts)) (now (s .args .cells)) (s .args .register)
 
 abbrev fields : tie.Start → ℕ → List ℕ
 fields s k =

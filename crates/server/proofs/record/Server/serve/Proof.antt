@@ -15,22 +15,28 @@ use Rattle.server.proofs.Told.{refuse-told, serve-unfit, serve-taken, s
 use Rattle.server.proofs.record.Server.serve.Statement.{statement}
 use Rattle.server.proofs.record.Server.serve.Tie as tie
 
-fits-requires : tie.Need-fits-requires
-fits-requires c κs = search needs
+fits-in-requires : tie.Need-fits-in-requires
+fits-in-requires c κs = search needs
 
 unserved-requires : tie.Need-unserved-requires
 unserved-requires c κs = search needs
 
 returns : tie.Need-returns
 returns c =
-    let unfit = sym (c .before .before .fits2 .ensures) ∙ not-true _ (c .before .if1 .taken) in
+    let unfit = sym (c .before .before .fits-in .ensures) ∙ not-true _ (c .before .if1 .taken) in
     refuse-told _ _ _ _ _ (c .unserved .ensures) (serve-unfit _ _ _ _ unfit)
 
-abbrev entry : tie.After-receive → tie.Start
-entry c = c .before .before .before .before .before
+abbrev tested : tie.After-receive → tie.After-fits-in
+tested c = c .before .before .before
 
-fitting : (c : tie.After-receive) → fits (entry c .args .self) ≡ true
-fitting c = sym (c .before .before .fits2 .ensures) ∙ not-false _ (c .before .if1 .left)
+abbrev untested : tie.After-fits-in → tie.After-shared-slice-known
+untested c = c .before .before .before .before .before .before .before
+
+abbrev entry : tie.After-receive → tie.Start
+entry c = untested (tested c) .before
+
+fitting : (c : tie.After-receive) → fits (entry c .args .t1) ≡ true
+fitting c = sym (tested c .fits-in .ensures) ∙ not-false _ (c .before .before .if1 .left)
 
 receive-requires : tie.Need-receive-requires
 receive-requires c κs = search needs
@@ -44,26 +50,22 @@ abbrev got : tie.After-enum-told → tie.After-receive
 got c = c .before .before .before .before
 
 abbrev told : tie.After-slice-known2 → tie.After-enum-told
-told c = c .before .before .before .before
+told c = c .before .before .before .before .before .before .before
 
 abbrev got-refused : tie.After-unserved2 → tie.After-receive
 got-refused c = c .before .before .before .before .before .before
 
--- where it is known that the message has bytes
-abbrev known-bytes : tie.After-receive → tie.After-shared-slice-known
-known-bytes c = c .before .before .before .before
-
 accepts : (c : tie.After-enum-told)
-    → receiveOf (entry (got c) .args .self .config) (now (entry (got c) .args .msg)) .verdict ≡ Verdict.Accepted
+    → receiveOf (entry (got c) .args .t1 .config) (now (entry (got c) .args .msg)) .verdict ≡ Verdict.Accepted
 accepts c = sym (ap (λ (x : Received). x .verdict) (got c .receive .ensures)) ∙ c .enum-told .given .1
 
 serve-fields-requires : tie.Need-serve-fields-requires
 serve-fields-requires c κs =
-    let taken : tie.After-enum-told = c .before in
+    let taken : tie.After-enum-told = c .before .before .before .before in
     let s = entry (got taken) in
-    let known = known-bytes (got taken) .shared-slice-known .given in
+    let known = untested (tested (got taken)) .shared-slice-known .given in
     let bytes : Bytes (now (s .args .msg)) = record { byte = λ k. omega (arith, known k) } in
-    (fitting (got taken), rw (got taken .receive .ensures) (receive-told (s .args .self .config) (now (s .args .msg)) bytes (accepts taken)))
+    (fitting (got taken), rw (got taken .receive .ensures) (receive-told (s .args .t1 .config) (now (s .args .msg)) bytes (accepts taken)))
 
 enum-known-verdict : tie.Need-enum-known-verdict
 enum-known-verdict c = search needs
@@ -79,7 +81,7 @@ returns-2 c =
     let taken = told c in
     let s = entry (got taken) in
     let served =
-    serve-taken (s .args .self) (now (s .args .msg)) (now (s .args .out)) (s .args .at) _ (fitting (got taken)) (got taken .receive .ensures)
+    serve-taken (s .args .t1) (now (s .args .msg)) (now (s .args .out)) (s .args .at) _ (fitting (got taken)) (got taken .receive .ensures)
     (taken .enum-told .given .1) in
     rw served (c .before .before .serve-fields .ensures)
 
@@ -92,7 +94,7 @@ pub serve-spec : {M : Type 1} → statement M
 serve-spec =
     tie.close
     (tie.spec
-    fits-requires
+    fits-in-requires
     unserved-requires
     returns
     receive-requires

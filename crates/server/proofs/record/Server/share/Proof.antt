@@ -15,27 +15,27 @@ use Rattle.server.proofs.Shares.{share-sent}
 use Rattle.server.proofs.record.Server.share.Statement.{statement}
 use Rattle.server.proofs.record.Server.share.Tie as tie
 
-fits-requires : tie.Need-fits-requires
-fits-requires c κs = search needs
+fits-in-requires : tie.Need-fits-in-requires
+fits-in-requires c κs = search needs
 
 returns : tie.Need-returns
 unfolding shareOf
-returns c = rw (sym (c .before .fits2 .ensures) ∙ not-true _ (c .if1 .taken)) (refl, refl)
+returns c = rw (sym (c .before .fits-in .ensures) ∙ not-true _ (c .if1 .taken)) (refl, refl)
 
 abbrev entry : tie.Else1 → tie.Start
-entry c = c .before .before .before
+entry c = c .before .before .before .before .before .before .before .before
 
-abbrev tested : tie.After-write → tie.Else1
-tested c = c .before .before .before .before .before
+abbrev tested : tie.After-write-lent → tie.Else1
+tested c = c .before .before .before .before .before .before .before
 
-fitting : (c : tie.Else1) → fits (entry c .args .self) ≡ true
-fitting c = sym (c .before .fits2 .ensures) ∙ not-false _ (c .if1 .left)
+fitting : (c : tie.Else1) → fits (entry c .args .t1) ≡ true
+fitting c = sym (c .before .fits-in .ensures) ∙ not-false _ (c .if1 .left)
 
-cast-t10 : tie.Need-cast-t10
-cast-t10 c = omega (arith, server-small _ _ (fits-told _ (fitting (c .before .before .before)) .server-in))
+cast-t16 : tie.Need-cast-t16
+cast-t16 c = omega (arith, server-small _ _ (fits-told _ (fitting (c .before .before)) .server-in))
 
-write-requires : tie.Need-write-requires
-write-requires c κs = search needs
+write-lent-requires : tie.Need-write-lent-requires
+write-lent-requires c κs = search needs
 
 same-length : tie.Need-same-length
 same-length c = search needs
@@ -44,10 +44,10 @@ returns-2 : tie.Need-returns-2
 returns-2 c =
     let written = c .before .before in
     let s = entry (tested written) in
-    let told = share-sent (s .args .self) (server-is-typed (s .args .self) _ (s .good .0)) (fitting (tested written)) (now (s .args .out)) (s .args .at) in
-    let sent = written .write .ensures in
+    let told = share-sent (s .args .t1) (server-is-typed (s .args .t1) _ (s .good .0)) (fitting (tested written)) (now (s .args .out)) (s .args .at) in
+    let sent = written .write-lent .ensures in
     (sent .0 ∙ ap (λ (w : Written). w .answer) told, sent .1 ∙ ap (λ (w : Written). w .out) told)
 
 pub share-spec : {M : Type 1} → statement M
 share-spec =
-    tie.close (tie.spec fits-requires returns cast-t10 write-requires same-length returns-2)
+    tie.close (tie.spec fits-in-requires returns cast-t16 write-lent-requires same-length returns-2)

@@ -11,7 +11,7 @@ abbrev tested : tie.After-add → tie.Else1
 tested c = c .before .before
 
 abbrev start : tie.Else1 → tie.Start
-start c = c .before .before .before .before .before
+start c = c .before .before .before .before
 
 fits-requires : tie.Need-fits-requires
 fits-requires c κs = search needs

@@ -1,5 +1,5 @@
--- `write` meets its contract: the reader's verdict is found without the bytes, the size before the first byte, and the part from the place on is lent to
--- `fill`.
+-- `write_judged` meets its contract: the verdict on the envelope and the replica is the reader's on their bytes, the size is found before the first byte,
+-- and the part from the place on is lent to `fill`.
 use Prim.Native.Nat.{ℕ, _+_, _≤_}
 use native.Mathlib.Omega.{arith}
 use mathlib.Core.Path.{_≡_, sym, ap, ap₂, _∙_}
@@ -7,15 +7,16 @@ use mathlib.Core.List.{List}
 use borrow.Author.Needs.{needs}
 use denote.Ref.{now}
 use lib.ListN.{length}
-use Rattle.ledger.specs.Ledgers.{givenOf, Typed as TypedLedger}
+use Rattle.ledger.specs.Ledgers.{givenOf}
 use Rattle.ledger.proofs.Totals.{count-empty}
 use Rattle.format.specs.Table.{fieldMapOf}
 use Rattle.replica.specs.declared.replica.Replica.{Replica}
+use Rattle.replica.specs.Parts.{replicaOf}
 use Rattle.replica.specs.Replicas.{Typed as TypedReplica}
 use Rattle.replica.proofs.Values.{fits-short}
 use Rattle.replica.proofs.Registers.{fits-value}
 use Rattle.replica.proofs.Replicas.{Fits, fits-told}
-use Rattle.replica.proofs.Ranges.{replica-is-typed}
+use Rattle.replica.proofs.Ranges.{register-is-typed}
 use Rattle.message.specs.Envelopes.{fieldsOf, messageOf, Typed}
 use Rattle.message.specs.Answers.{check, verdictOf}
 use Rattle.message.proofs.Numbers.{accepted-check}
@@ -25,43 +26,36 @@ use Rattle.message.proofs.Found.{taken-told}
 use Rattle.writer.specs.Outlines.{Counted, outlineOf, sizeOf}
 use Rattle.writer.proofs.Messages.{message-length, map-length}
 use Rattle.writer.proofs.Writes.{lent-length, write-refused, write-narrow, write-done}
-use Rattle.writer.proofs.call.write.Statement.{statement}
-use Rattle.writer.proofs.call.write.Tie as tie
+use Rattle.writer.proofs.call.write_judged.Statement.{statement}
+use Rattle.writer.proofs.call.write_judged.Tie as tie
 
 -- ---- the way through the function, from each call to the one before it
 
-abbrev begun : tie.After-fault → tie.Start
+abbrev entry : tie.After-slice-known → tie.Start
+entry c = c .before .before .before
+
+abbrev begun : tie.After-enum-told → tie.After-slice-known
 begun c = c .before .before
 
-abbrev lent-rows : tie.After-mark-rows-arg4 → tie.After-enum-told
-lent-rows c = c .before .before .before .before .before .before
-
-abbrev passed : tie.After-mark-rows → tie.After-enum-told
-passed c = lent-rows (c .before)
+abbrev passed : tie.After-measure → tie.After-enum-told
+passed c = c .before .before
 
 abbrev measured : tie.Else2 → tie.After-measure
 measured c = c .before .before .before
 
--- the test passed last before the call of `fill`
-abbrev lent-fill : tie.After-fill-arg5 → tie.Else2
-lent-fill c = c .before .before .before .before .before .before
-
-abbrev widened : tie.After-fill → tie.Else2
-widened c = lent-fill (c .before)
-
 abbrev start : tie.After-enum-told → tie.Start
-start c = begun (c .before .before)
+start c = entry (begun c)
 
 abbrev planned : tie.After-measure → tie.Start
-planned c = start (passed (c .before))
+planned c = start (passed c)
 
 abbrev entered : tie.Else2 → tie.Start
 entered c = planned (measured c)
 
--- ---- the arguments: the replica, whose arrays are lent out of it, the message, and the reader's number for it
+-- ---- the arguments: the replica whose arrays are lent, the message, and the reader's number for it
 
 abbrev carried : tie.Start → Replica
-carried s = s .args .t3
+carried s = replicaOf (s .args .counts .now) (s .args .cells .now) (s .args .register)
 
 abbrev message : tie.Start → List ℕ
 message s = messageOf (s .args .config) (s .args .envelope) (carried s)
@@ -70,25 +64,32 @@ abbrev number : tie.Start → ℕ
 number s = check (s .args .config) (message s)
 
 envelope-typed : (s : tie.Start) → Typed (s .args .envelope)
-envelope-typed s = envelope-is-typed (s .args .envelope) _ (s .good .1 .0)
+envelope-typed s = envelope-is-typed (s .args .envelope) _ (s .good .1 .1 .0)
 
-typed : (s : tie.Start) → TypedReplica (carried s)
-typed s = replica-is-typed (carried s) _ (s .good .1 .1 .0)
+typed : (c : tie.After-slice-known) → TypedReplica (carried (entry c))
+typed c =
+    let s = entry c in
+    record {
+      ledger-typed = record {
+        counts-length = s .pre .0;
+        cells-length = s .pre .1;
+        count-fits = λ i. omega (arith, c .before .before .shared-slice-known .given i);
+        cell-fits = λ k. omega (arith, c .before .shared-slice-known2 .given k);
+      };
+      register-typed = register-is-typed (s .args .register) _ (s .good .1 .1 .1 .1 .1 .0);
+    }
 
--- the writer's verdict is the reader's
-found : (c : tie.After-fault) → verdictOf (number (begun c)) ≡ c .fault .result
-found c = ap verdictOf (fault-is-check _ _ _ (envelope-typed (begun c)) (typed (begun c))) ∙ sym (c .fault .ensures)
+-- the verdict is the reader's
+found : (c : tie.After-slice-known) → verdictOf (number (entry c)) ≡ entry c .args .verdict
+found c = ap verdictOf (fault-is-check _ _ _ (envelope-typed (entry c)) (typed c)) ∙ sym (entry c .pre .2)
 
 -- ---- a message that the reader takes: its value is short, and its ledger is within bounds, where a row whose count is 0 is empty
 
 taken : (c : tie.After-enum-told) → number (start c) ≡ 0
-taken c = accepted-check _ (found (c .before .before) ∙ c .enum-told .given .1)
+taken c = accepted-check _ (found (begun c) ∙ c .enum-told .given .1)
 
 told : (c : tie.After-enum-told) → Fits (start c .args .config) (carried (start c))
-told c = fits-told _ _ (taken-told _ _ _ (envelope-typed (start c)) (typed (start c)) .0 (taken c) .1)
-
-sized : (c : tie.After-enum-told) → TypedLedger (carried (start c) .ledger)
-sized c = typed (start c) .ledger-typed
+told c = fits-told _ _ (taken-told _ _ _ (envelope-typed (start c)) (typed (begun c)) .0 (taken c) .1)
 
 short : (c : tie.After-enum-told) → carried (start c) .register .value .length ≤ 64
 short c = fits-short _ (fits-value _ _ (told c .register-fits))
@@ -121,28 +122,23 @@ room c = omega (arith, c .if2 .left, c .before .before .if1 .left, size-is (meas
 
 -- ---- what each call asks, and what is handed back
 
-fault-requires : tie.Need-fault-requires
-fault-requires c κs = search needs
-
-enum-known-r : tie.Need-enum-known-r
-enum-known-r c = search needs
+enum-known-verdict : tie.Need-enum-known-verdict
+enum-known-verdict c = search needs
 
 returns : tie.Need-returns
-returns c = write-refused _ _ _ _ _ _ (found (c .before .before .before) ∙ c .before .r .given .1)
+returns c = write-refused _ _ _ _ _ _ (found (c .before .before .before) ∙ c .before .verdict .given .1)
 
 enum-told : tie.Need-enum-told
 enum-told c = search needs
 
 mark-rows-requires : tie.Need-mark-rows-requires
-mark-rows-requires c κs =
-    let e = lent-rows c in
-    (sized e .counts-length, sized e .cells-length, counted e)
+mark-rows-requires c κs = (start c .pre .0, start c .pre .1, counted c)
 
 measure-requires : tie.Need-measure-requires
-measure-requires c κs = (short (passed c), c .mark-rows .ensures .3, c .mark-rows .ensures .4)
+measure-requires c κs = (short (c .before), c .mark-rows .ensures .3, c .mark-rows .ensures .4)
 
 returns-2 : tie.Need-returns-2
-returns-2 c = write-narrow _ _ _ _ _ (taken (passed (c .before .before))) (omega (arith, c .if1 .taken))
+returns-2 c = write-narrow _ _ _ _ _ (taken (passed (c .before))) (omega (arith, c .if1 .taken))
 
 sub-if2 : tie.Need-sub-if2
 sub-if2 c = omega (arith, c .if1 .left)
@@ -150,7 +146,7 @@ sub-if2 c = omega (arith, c .if1 .left)
 returns-3 : tie.Need-returns-3
 returns-3 c =
     let plan = c .before .before .before in
-    write-narrow _ _ _ _ _ (taken (passed (plan .before))) (omega (arith, c .if2 .taken, c .before .before .if1 .left, size-is plan))
+    write-narrow _ _ _ _ _ (taken (passed plan)) (omega (arith, c .if2 .taken, c .before .before .if1 .left, size-is plan))
 
 sub-fill : tie.Need-sub-fill
 sub-fill c = search needs
@@ -163,34 +159,35 @@ part-fill-end c = search needs
 
 fill-requires : tie.Need-fill-requires
 fill-requires c κs =
-    let wide = lent-fill c in
+    let wide = c .before in
     let plan = measured wide in
     let m = plan .before .mark-rows .ensures in
-    let e = passed (plan .before) in
-    let a = entered wide .args in
-    (sized e .counts-length, sized e .cells-length, short e, map-is plan, m .0, m .1, omega (arith, room wide, lent-length (a .at) (now (a .out))))
+    let s = entered wide in
+    (s .pre .0, s .pre .1, short (passed plan), map-is plan, m .0, m .1, omega (arith, room wide, lent-length (s .args .at) (now (s .args .out))))
 
-add-t21 : tie.Need-add-t21
-add-t21 c =
-    let filled = c .before .before in
-    omega (arith, room (widened filled), filled .fill .ensures .1, entered (widened filled) .good .1 .1 .1 .0 .0)
+-- the test passed last before the call of `fill`
+abbrev widened : tie.After-slice-known2 → tie.Else2
+widened c = c .before .before .before .before
+
+add-t16 : tie.Need-add-t16
+add-t16 c =
+    let wide = widened c in
+    omega (arith, room wide, c .before .before .fill .ensures .1, entered wide .good .1 .1 .1 .1 .1 .1 .0 .0)
 
 same-length : tie.Need-same-length
 same-length c = search needs
 
 returns-4 : tie.Need-returns-4
 returns-4 c =
-    let filled = c .before .before in
-    let wide = widened filled in
-    let f = filled .fill .ensures in
-    write-done _ _ _ _ _ _ _ (taken (passed (measured wide .before))) (room wide) (f .0) (f .1)
+    let wide = widened c in
+    let f = c .before .before .fill .ensures in
+    write-done _ _ _ _ _ _ _ (taken (passed (measured wide))) (room wide) (f .0) (f .1)
 
-pub write-spec : {M : Type 1} → statement M
-write-spec =
+pub write-judged-spec : {M : Type 1} → statement M
+write-judged-spec =
     tie.close
     (tie.spec
-    fault-requires
-    enum-known-r
+    enum-known-verdict
     returns
     enum-told
     mark-rows-requires
@@ -202,6 +199,6 @@ write-spec =
     part-fill-start
     part-fill-end
     fill-requires
-    add-t21
+    add-t16
     same-length
     returns-4)
