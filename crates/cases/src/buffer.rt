@@ -3,8 +3,8 @@ use super::print::hex;
 use super::print::item;
 use super::print::refusal;
 use super::print::word;
-use super::text::MOST_BYTES;
 use config::Number;
+use script::MOST_BYTES;
 ghost use mathlib.Core.Path.{_≡_};
 ghost use Prim.Native.Nat.{_≤_};
 ghost use lib.ListN.{length};
@@ -33,12 +33,7 @@ pub(crate) fn is_marked(bytes: &[u8]) -> bool {
     true
 }
 
-// A length that a line may give a buffer.
-pub(crate) fn is_within(len: u64) -> bool {
-    len <= MOST_BYTES as u64
-}
-
-// The length of the buffer that is lent; `is_within` has been tested, so it is the one that the line gives.
+// The length of the buffer that is lent: the one that the line gives, since a line that gives more is past the program's bounds.
 pub(crate) fn lent(len: u64) -> usize
     ensures { λ r. ⌜ r ≤ 2048 ⌝ }
 {

@@ -2,7 +2,6 @@
 use super::buffer::lent;
 use super::buffer::marked;
 use super::buffer::written;
-use super::command::DeskCall;
 use super::print::item;
 use super::print::refusal;
 use super::print::verdict;
@@ -14,13 +13,14 @@ use desk::Desk;
 use desk::DeskAnswer;
 use desk::Hearing;
 use desk::Told;
+use script::DeskCall;
 
 // Makes a call, answers it, and hands back the record that the call left.
 pub(crate) fn call_desk(desk: Desk, call: DeskCall, bytes: &[u8]) -> Desk {
     match call {
         DeskCall::BeginRead(note) => changed(desk.begin_read(note)),
         DeskCall::BeginWrite(note) => changed(desk.begin_write(note, bytes)),
-        DeskCall::Ask { server, at, len } => {
+        DeskCall::Ask(server, at, len) => {
             ask(desk, server, at as usize, len);
             desk
         }

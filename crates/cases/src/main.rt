@@ -1,17 +1,13 @@
 // Drives one cluster by a script: a line of standard output for each command on a line of standard input. docs/SCRIPTS.md has the commands.
 mod buffer;
 mod cluster;
-mod command;
 mod desks;
-mod forms;
-mod line;
 mod print;
 mod queries;
 mod reading;
 mod record;
 mod run;
 mod servers;
-mod text;
 mod writing;
 
 use cluster::Cluster;

@@ -38,6 +38,11 @@ pub(crate) fn refusal(r: Refusal) {
     item(b"no ", r.number());
 }
 
+// A refusal as a C host gets it: −1,000,000 less its number.
+pub(crate) fn code(r: Refusal) {
+    item(b"-", 1000000 + r.number());
+}
+
 // What a call that hands back no number answers.
 pub(crate) fn verdict(v: Verdict) {
     match v {

@@ -1,25 +1,58 @@
-// What is asked of a message, a block or a map: the numbers that a C host gets, the servers named, the value.
-use super::command::Query;
+// What is asked of a message, a block or a map. A check, a weight, a quorum and seats are answered by the number that a C host gets.
 use super::print::answer;
+use super::print::code;
 use super::print::hex;
+use super::print::number;
 use super::print::signed;
 use config::Config;
-use host::tovridsa_check;
-use host::tovridsa_quorum;
-use host::tovridsa_seats;
-use host::tovridsa_weight;
+use config::Decision;
+use config::Number;
+use config::Signed;
+use config::Verdict;
 use ledger::count_named;
+use reader::check;
+use reader::quorum;
 use reader::value;
+use reader::weight;
+use script::Query;
+use seats::on_offer;
 
 pub(crate) fn ask_about(config: Config, query: Query, bytes: &[u8]) {
-    let n = config.n;
-    let f = config.f;
     match query {
-        Query::Check => signed(tovridsa_check(n, f, bytes)),
-        Query::Weight(server) => signed(tovridsa_weight(n, f, server, bytes)),
-        Query::Quorum(map) => signed(tovridsa_quorum(n, f, map, bytes)),
-        Query::Seats => signed(tovridsa_seats(bytes)),
+        Query::Check => checked(check(config, bytes)),
+        Query::Weight(server) => weighed(weight(config, server, bytes)),
+        Query::Quorum(map) => decided(quorum(config, map, bytes)),
+        Query::Seats => counted(on_offer(bytes)),
         Query::Named(map) => answer(count_named(config, map)),
         Query::Value => hex(value(config, bytes)),
+    }
+}
+
+fn checked(verdict: Verdict) {
+    match verdict {
+        Verdict::Accepted => number(0),
+        Verdict::Refused(r) => code(r),
+    }
+}
+
+fn weighed(weight: Signed) {
+    match weight {
+        Signed::Value(x) => signed(x),
+        Signed::Refused(r) => code(r),
+    }
+}
+
+fn decided(decision: Decision) {
+    match decision {
+        Decision::Yes => number(1),
+        Decision::No => number(0),
+        Decision::Refused(r) => code(r),
+    }
+}
+
+fn counted(seats: Number) {
+    match seats {
+        Number::Value(x) => number(x),
+        Number::Refused(r) => code(r),
     }
 }

@@ -1,29 +1,29 @@
 // What a line does to the cluster, and its answer.
 use super::cluster::Cluster;
 use super::cluster::place_for;
-use super::command::Command;
-use super::command::DeskCall;
-use super::command::ServerCall;
 use super::desks::call_desk;
-use super::line::understand;
 use super::print::refusal;
 use super::print::verdict;
 use super::print::word;
 use super::queries::ask_about;
 use super::reading::answer_message;
 use super::servers::call_server;
-use super::text::room;
 use config::Config;
 use config::Refusal;
 use config::Verdict;
 use desk::Desk;
+use script::Command;
+use script::DeskCall;
+use script::SPACE;
+use script::ServerCall;
+use script::understand;
 use server::Server;
 ghost use Prim.Native.Nat.{_≤_, _<_};
 ghost use lib.ListN.{length};
 
 // Answers a line, unless it says nothing, and hands back the cluster that it leaves. The array has a 0 after the line's bytes.
 pub(crate) fn answer_line(cluster: Cluster, line: &[u8]) -> Cluster {
-    let mut bytes = room();
+    let mut bytes: [u8; SPACE] = [0; SPACE];
     let read = understand(line, &mut bytes);
     let command = read.command;
     if let Command::Nothing = command {

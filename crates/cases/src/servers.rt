@@ -2,21 +2,21 @@
 use super::buffer::lent;
 use super::buffer::marked;
 use super::buffer::written;
-use super::command::ServerCall;
 use super::print::verdict;
 use super::print::word;
 use super::record::print_server;
+use script::ServerCall;
 use server::Server;
 
 // Makes a call, answers it, and hands back the record that the call left. A crash changes no record.
 pub(crate) fn call_server(server: Server, call: ServerCall, bytes: &[u8]) -> Server {
     match call {
-        ServerCall::Share { at, len } => {
+        ServerCall::Share(at, len) => {
             share(server, at as usize, len);
             server
         }
-        ServerCall::Serve { at, len } => serve(server, at as usize, len, bytes),
-        ServerCall::Transfer { taker, amount } => transfer(server, taker, amount),
+        ServerCall::Serve(at, len) => serve(server, at as usize, len, bytes),
+        ServerCall::Transfer(taker, amount) => transfer(server, taker, amount),
         ServerCall::Crash => {
             word(b"ok");
             server

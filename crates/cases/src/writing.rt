@@ -1,7 +1,6 @@
 // Whether the writer makes a message again from what the reader found in it, and leaves every other byte of the buffer alone.
 use super::buffer::is_marked;
 use super::buffer::marked;
-use super::text::same;
 use config::Config;
 use config::Number;
 use message::Envelope;
@@ -51,13 +50,17 @@ fn is_written(config: Config, envelope: Envelope, replica: Replica, msg: &[u8]) 
 fn holds(space: &[u8], msg: &[u8]) -> bool
     requires { ⌜ 3 + length (now msg) ≤ length (now space) ⌝ }
 {
-    let end = BEFORE + msg.len();
+    let mut k: usize = 0;
+    while k < msg.len() {
+        if space[BEFORE + k] != msg[k] {
+            return false;
+        }
+        k += 1;
+    }
     if !is_marked(&space[..BEFORE]) {
         return false;
     }
-    if !same(&space[BEFORE..end], msg) {
-        return false;
-    }
+    let end = BEFORE + msg.len();
     is_marked(&space[end..])
 }
 

@@ -1,16 +1,12 @@
 -- `answer_line` is safe: the bytes and the 0 after them lie within the array.
+use Prim.Native.Nat.{ℕ}
 use native.Mathlib.Omega.{arith}
-use mathlib.Core.Path.{sym}
+use mathlib.Core.Path.{sym, _∙_}
+use lib.ListN.{length-replicate}
 use lib.Seq.{length-take-le}
 use borrow.Author.Needs.{needs}
 use Rattle.cases.proofs.run.answer_line.Statement.{statement}
 use Rattle.cases.proofs.run.answer_line.Tie as tie
-
-room-requires : tie.Need-room-requires
-room-requires c κs = search needs
-
-slice-aggregate-understand : tie.Need-slice-aggregate-understand
-slice-aggregate-understand c = search needs
 
 understand-requires : tie.Need-understand-requires
 understand-requires c κs = search needs
@@ -28,10 +24,10 @@ array-share-prefix-bytes : tie.Need-array-share-prefix-bytes
 array-share-prefix-bytes c = search needs
 
 slice-aggregate-obey : tie.Need-slice-aggregate-obey
-slice-aggregate-obey c = sym (length-take-le _ _ (omega (arith, c .before .before .before .before .understand .ensures .0, c .before .before .before .before .understand .ensures .1)))
+slice-aggregate-obey c = sym (length-take-le _ _ (omega (arith, c .before .before .before .understand .ensures .0, c .before .before .before .understand .ensures .1 ∙ length-replicate {A = ℕ} 2049 0)))
 
 obey-requires : tie.Need-obey-requires
-obey-requires c κs = (omega (arith, slice-aggregate-obey c), omega (arith, slice-aggregate-obey c, c .before .before .before .before .understand .ensures .0))
+obey-requires c κs = (omega (arith, slice-aggregate-obey c), omega (arith, slice-aggregate-obey c, c .before .before .before .understand .ensures .0))
 
 slice-aggregate-word : tie.Need-slice-aggregate-word
 slice-aggregate-word c = search needs
@@ -46,8 +42,6 @@ pub answer-line-spec : {M : Type 1} → statement M
 answer-line-spec =
     tie.close
     (tie.spec
-    room-requires
-    slice-aggregate-understand
     understand-requires
     enum-told
     returns

@@ -3,8 +3,8 @@ use Prim.Native.Nat.{_≤_, _-_}
 use mathlib.Core.Path.{_≡_}
 use borrow.Author.Needs.{needs}
 use lib.ListN.{length}
-use Rattle.cases.proofs.text.same.Statement.{statement}
-use Rattle.cases.proofs.text.same.Tie as tie
+use Rattle.script.proofs.text.same.Statement.{statement}
+use Rattle.script.proofs.text.same.Tie as tie
 
 abbrev Inv-loop : tie.InvT-loop
 Inv-loop a b k₀ k = (k ≤ length a) × (length a ≡ length b)

@@ -1,9 +1,9 @@
 -- `decimal` is safe and ends: a digit is taken only where the number with it fits.
 use Prim.Native.Nat.{_≤_, _-_}
-use borrow.Author.Needs.{needs}
 use lib.ListN.{length}
-use Rattle.cases.proofs.text.decimal.Statement.{statement}
-use Rattle.cases.proofs.text.decimal.Tie as tie
+use borrow.Author.Needs.{needs}
+use Rattle.script.proofs.text.decimal.Statement.{statement}
+use Rattle.script.proofs.text.decimal.Tie as tie
 
 abbrev Inv-loop : tie.InvT-loop
 Inv-loop word x₀ k₀ x k = k ≤ length word
@@ -17,15 +17,6 @@ returns c = search needs
 loop-holds : tie.Need-loop-holds Inv-loop μ-loop
 loop-holds c = search needs
 
-shared-slice-read-is-decimal : tie.Need-shared-slice-read-is-decimal Inv-loop μ-loop
-shared-slice-read-is-decimal c = search needs
-
-is-decimal-requires : tie.Need-is-decimal-requires Inv-loop μ-loop
-is-decimal-requires c κs = search needs
-
-returns-2 : tie.Need-returns-2 Inv-loop μ-loop
-returns-2 c = search needs
-
 shared-slice-read-digit : tie.Need-shared-slice-read-digit Inv-loop μ-loop
 shared-slice-read-digit c = search needs
 
@@ -34,6 +25,9 @@ digit-requires c κs = search needs
 
 cast-d : tie.Need-cast-d Inv-loop μ-loop
 cast-d c = search needs
+
+returns-2 : tie.Need-returns-2 Inv-loop μ-loop
+returns-2 c = search needs
 
 sub-if3 : tie.Need-sub-if3 Inv-loop μ-loop
 sub-if3 c = search needs
@@ -67,12 +61,10 @@ decimal-spec =
     μ-loop
     returns
     loop-holds
-    shared-slice-read-is-decimal
-    is-decimal-requires
-    returns-2
     shared-slice-read-digit
     digit-requires
     cast-d
+    returns-2
     sub-if3
     returns-3
     mul-x

@@ -1,21 +1,24 @@
--- `find` is safe and ends, at a place from `from` to the end.
+-- `skip` is safe and ends.
 use Prim.Native.Nat.{_≤_, _-_}
-use borrow.Author.Needs.{needs}
 use lib.ListN.{length}
-use Rattle.cases.proofs.text.find.Statement.{statement}
-use Rattle.cases.proofs.text.find.Tie as tie
+use borrow.Author.Needs.{needs}
+use Rattle.script.proofs.text.skip.Statement.{statement}
+use Rattle.script.proofs.text.skip.Tie as tie
 
 abbrev Inv-loop : tie.InvT-loop
-Inv-loop text from byte at₀ at = (from ≤ at) × (at ≤ length text)
+Inv-loop text from spaces at₀ at = (from ≤ at) × (at ≤ length text)
 
 abbrev μ-loop : tie.MeasureT-loop
-μ-loop text from byte at₀ at = length text - at
+μ-loop text from spaces at₀ at = length text - at
 
 loop-holds : tie.Need-loop-holds Inv-loop μ-loop
 loop-holds c = search needs
 
-shared-slice-read-if1 : tie.Need-shared-slice-read-if1 Inv-loop μ-loop
-shared-slice-read-if1 c = search needs
+shared-slice-read-is-space : tie.Need-shared-slice-read-is-space Inv-loop μ-loop
+shared-slice-read-is-space c = search needs
+
+is-space-requires : tie.Need-is-space-requires Inv-loop μ-loop
+is-space-requires c κs = search needs
 
 returns : tie.Need-returns Inv-loop μ-loop
 returns c = search needs
@@ -32,14 +35,15 @@ loop-again c = search needs
 returns-2 : tie.Need-returns-2 Inv-loop μ-loop
 returns-2 c = search needs
 
-pub find-spec : {M : Type 1} → statement M
-find-spec =
+pub skip-spec : {M : Type 1} → statement M
+skip-spec =
     tie.close
     (tie.spec
     Inv-loop
     μ-loop
     loop-holds
-    shared-slice-read-if1
+    shared-slice-read-is-space
+    is-space-requires
     returns
     add-at
     loop-less

@@ -1,0 +1,98 @@
+// Commands: what a line of a script asks for.
+use super::text::MOST_BYTES;
+
+// What a desk is asked to do. A begin has its note; an ask has the server, and the place and the length of the buffer.
+pub enum DeskCall {
+    BeginRead(u32),
+    BeginWrite(u32),
+    Ask(u64, u64, u64),
+    Hear,
+    Result,
+    Drop,
+    Record,
+}
+
+// What a server is asked to do. A share and a serve have the place and the length of the buffer, a transfer the taker and the amount.
+pub enum ServerCall {
+    Share(u64, u64),
+    Serve(u64, u64),
+    Transfer(u64, u64),
+    Crash,
+    Record,
+}
+
+// What is asked of a message, a block or a map, with no record.
+pub enum Query {
+    Check,
+    Weight(u64),
+    Quorum(u64),
+    Seats,
+    Named(u16),
+    Value,
+}
+
+// What a line comes to. It may also say nothing, be past the program's bounds, or not be readable.
+pub enum Command {
+    House { n: u64, f: u64 },
+    Desk(u64, DeskCall),
+    Server(u64, ServerCall),
+    Query(Query),
+    Message { n: u64, f: u64 },
+    Nothing,
+    Beyond,
+    Unreadable,
+}
+
+// The command of a line that has the form at a place of the table; `x[k]` is the number that word k of the line stands for.
+pub(crate) fn command_of(place: usize, x: [u64; 5]) -> Command {
+    match place {
+        0 => Command::House { n: x[1], f: x[2] },
+        1 => begin(x[1], x[3], false),
+        2 => begin(x[1], x[3], true),
+        3 => within(x[4], Command::Desk(x[1], DeskCall::Ask(x[2], x[3], x[4]))),
+        4 => within(x[3], Command::Server(x[1], ServerCall::Share(x[2], x[3]))),
+        5 => within(x[3], Command::Server(x[1], ServerCall::Serve(x[2], x[3]))),
+        6 => Command::Desk(x[1], DeskCall::Hear),
+        7 => Command::Desk(x[1], DeskCall::Result),
+        8 => Command::Desk(x[1], DeskCall::Drop),
+        9 => Command::Server(x[1], ServerCall::Transfer(x[2], x[3])),
+        10 => Command::Server(x[1], ServerCall::Crash),
+        11 => Command::Query(Query::Check),
+        12 => Command::Query(Query::Weight(x[1])),
+        13 => Command::Query(Query::Quorum(x[1])),
+        14 => Command::Query(Query::Seats),
+        15 => named(x[1]),
+        16 => Command::Query(Query::Value),
+        17 => Command::Server(x[2], ServerCall::Record),
+        18 => Command::Desk(x[2], DeskCall::Record),
+        19 => Command::Message { n: x[1], f: x[2] },
+        _ => Command::Unreadable,
+    }
+}
+
+// A begin, where its note fits 32 bits.
+fn begin(desk: u64, note: u64, is_write: bool) -> Command {
+    if 4294967295 < note {
+        return Command::Unreadable;
+    }
+    if is_write {
+        return Command::Desk(desk, DeskCall::BeginWrite(note as u32));
+    }
+    Command::Desk(desk, DeskCall::BeginRead(note as u32))
+}
+
+// A question about a map, where it fits 16 bits.
+fn named(map: u64) -> Command {
+    if 65535 < map {
+        return Command::Unreadable;
+    }
+    Command::Query(Query::Named(map as u16))
+}
+
+// A command, where the buffer that it lends is within the program's bounds.
+fn within(len: u64, command: Command) -> Command {
+    if (MOST_BYTES as u64) < len {
+        return Command::Beyond;
+    }
+    command
+}

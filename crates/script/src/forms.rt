@@ -1,0 +1,106 @@
+// The forms of the lines, and which of them a line has.
+use super::command::Command;
+use super::command::command_of;
+use super::text::Parsed;
+use super::text::decimal;
+use super::text::find;
+use super::text::same;
+use super::text::skip;
+
+// A form to a line: `#` stands for a number, `*` for bytes in hex, which are the last of a line, and any other word for itself.
+pub(crate) const FORMS: [u8; 227] = *b"house # #
+begin # read #
+begin # write # *
+ask # # # #
+share # # #
+serve # # # *
+hear # *
+result #
+drop #
+transfer # # #
+crash #
+check *
+weight # *
+quorum # *
+seats *
+named #
+value *
+record server #
+record desk #
+message # # *
+";
+
+// Whether a line has a form; the number that each of its words stands for, 0 where it is none; and where its bytes begin, at its end where it has none.
+struct Met {
+    ok: bool,
+    x: [u64; 5],
+    from: usize,
+}
+
+// What a line asks for, and where its bytes begin, at its end where it has none.
+pub(crate) struct Asked {
+    pub command: Command,
+    pub from: usize,
+}
+
+// What a line asks for, by the first form of the table that it has.
+pub(crate) fn parse(forms: &[u8], line: &[u8]) -> Asked {
+    let mut at: usize = 0;
+    let mut place: usize = 0;
+    while at < forms.len() {
+        let end = find(forms, at, b'\n');
+        let met = meet(&forms[at..end], line);
+        if met.ok {
+            let x = met.x;
+            return Asked {
+                command: command_of(place, x),
+                from: met.from,
+            };
+        }
+        at = end + 1;
+        place += 1;
+    }
+    Asked {
+        command: Command::Unreadable,
+        from: line.len(),
+    }
+}
+
+// A line beside a form, word by word. No form has more than five words before its bytes.
+fn meet(form: &[u8], line: &[u8]) -> Met {
+    let mut x: [u64; 5] = [0; 5];
+    let mut k: usize = 0;
+    let mut at: usize = 0;
+    let mut from = skip(line, 0, true);
+    while at < form.len() {
+        if form[at] == b'*' {
+            let ok = from < line.len();
+            return Met { ok, x, from };
+        }
+        let next = skip(form, at, false);
+        let end = skip(line, from, false);
+        let Parsed::Value(value) = meaning(&form[at..next], &line[from..end]) else {
+            return Met { ok: false, x, from };
+        };
+        if 5 <= k {
+            return Met { ok: false, x, from };
+        }
+        x[k] = value;
+        k += 1;
+        at = skip(form, next, true);
+        from = skip(line, end, true);
+    }
+    let ok = from == line.len();
+    Met { ok, x, from }
+}
+
+// What a word of a line stands for beside a word of a form: a number beside `#`, and 0 beside the same word.
+fn meaning(form: &[u8], word: &[u8]) -> Parsed {
+    if same(form, b"#") {
+        return decimal(word);
+    }
+    if same(form, word) {
+        return Parsed::Value(0);
+    }
+    Parsed::Bad
+}

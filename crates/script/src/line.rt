@@ -1,0 +1,61 @@
+// A line of a script as a command and its bytes.
+use super::command::Command;
+use super::forms::FORMS;
+use super::forms::parse;
+use super::text::MOST_BYTES;
+use super::text::Parsed;
+use super::text::SPACE;
+use super::text::decode;
+use super::text::find;
+use super::text::skip;
+ghost use mathlib.Core.Path.{_≡_};
+ghost use Prim.Native.Nat.{_≤_};
+ghost use lib.ListN.{length};
+
+// The most characters of a line.
+const MOST_LINE: usize = 8192;
+
+// What a line asks for, and how many bytes it has.
+pub struct Understood {
+    pub command: Command,
+    pub count: usize,
+}
+
+// Reads a line, and puts its bytes down at the front of `out`.
+pub fn understand(line: &[u8], out: &mut [u8; SPACE]) -> Understood
+    ensures { λ r. ⌜ (r .count ≤ 2048) × (length (now (out .exit)) ≡ length (now (out .entry))) ⌝ }
+{
+    if MOST_LINE < line.len() {
+        return without_bytes(Command::Beyond);
+    }
+    let end = find(line, 0, b'#');
+    let text = &line[..end];
+    if skip(text, 0, true) == text.len() {
+        return without_bytes(Command::Nothing);
+    }
+    let asked = parse(&FORMS, text);
+    let command = asked.command;
+    let from = asked.from;
+    if text.len() <= from {
+        return without_bytes(command);
+    }
+    if let Command::Unreadable = command {
+        return without_bytes(command);
+    }
+    let Parsed::Value(count) = decode(text, from, out) else {
+        return without_bytes(Command::Unreadable);
+    };
+    if (MOST_BYTES as u64) < count {
+        return without_bytes(Command::Beyond);
+    }
+    Understood {
+        command,
+        count: count as usize,
+    }
+}
+
+fn without_bytes(command: Command) -> Understood
+    ensures { λ r. ⌜ r .count ≡ 0 ⌝ }
+{
+    Understood { command, count: 0 }
+}
