@@ -19,40 +19,24 @@ use seats::on_offer;
 
 pub(crate) fn ask_about(config: Config, query: Query, bytes: &[u8]) {
     match query {
-        Query::Check => checked(check(config, bytes)),
-        Query::Weight(server) => weighed(weight(config, server, bytes)),
-        Query::Quorum(map) => decided(quorum(config, map, bytes)),
-        Query::Seats => counted(on_offer(bytes)),
+        Query::Check => match check(config, bytes) {
+            Verdict::Accepted => number(0),
+            Verdict::Refused(r) => code(r),
+        },
+        Query::Weight(server) => match weight(config, server, bytes) {
+            Signed::Value(x) => signed(x),
+            Signed::Refused(r) => code(r),
+        },
+        Query::Quorum(map) => match quorum(config, map, bytes) {
+            Decision::Yes => number(1),
+            Decision::No => number(0),
+            Decision::Refused(r) => code(r),
+        },
+        Query::Seats => match on_offer(bytes) {
+            Number::Value(x) => number(x),
+            Number::Refused(r) => code(r),
+        },
         Query::Named(map) => answer(count_named(config, map)),
         Query::Value => hex(value(config, bytes)),
-    }
-}
-
-fn checked(verdict: Verdict) {
-    match verdict {
-        Verdict::Accepted => number(0),
-        Verdict::Refused(r) => code(r),
-    }
-}
-
-fn weighed(weight: Signed) {
-    match weight {
-        Signed::Value(x) => signed(x),
-        Signed::Refused(r) => code(r),
-    }
-}
-
-fn decided(decision: Decision) {
-    match decision {
-        Decision::Yes => number(1),
-        Decision::No => number(0),
-        Decision::Refused(r) => code(r),
-    }
-}
-
-fn counted(seats: Number) {
-    match seats {
-        Number::Value(x) => number(x),
-        Number::Refused(r) => code(r),
     }
 }

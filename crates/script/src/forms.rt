@@ -7,7 +7,8 @@ use super::text::find;
 use super::text::same;
 use super::text::skip;
 
-// A form to a line: `#` stands for a number, `*` for bytes in hex, which are the last of a line, and any other word for itself.
+// The table of the forms, one to a line, in the order of `command_of`: `#` stands for a number, `*` for bytes in hex, which are the last of a line, and
+// any other word for itself.
 pub(crate) const FORMS: [u8; 227] = *b"house # #
 begin # read #
 begin # write # *

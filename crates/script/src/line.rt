@@ -21,7 +21,7 @@ pub struct Understood {
     pub count: usize,
 }
 
-// Reads a line, and puts its bytes down at the front of `out`.
+// Reads a line, and puts its bytes down at the front of `out`. A line that cannot be read is so even where it is past a bound too, but for its length.
 pub fn understand(line: &[u8], out: &mut [u8; SPACE]) -> Understood
     ensures { λ r. ⌜ (r .count ≤ 2048) × (length (now (out .exit)) ≡ length (now (out .entry))) ⌝ }
 {
