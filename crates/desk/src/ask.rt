@@ -29,27 +29,26 @@ impl Desk {
         ) {
             return Number::Refused(Refusal::BadHouse);
         }
-        if self.operation.mode != RUNNING {
+        if operation.mode != RUNNING {
             return Number::Refused(Refusal::Idle);
         }
         let config = self.config;
         if config.n <= server {
             return Number::Refused(Refusal::BadHouse);
         }
-        let register = self.replica.register;
         let envelope = Envelope {
             kind: REQUEST,
             server: server as u8,
             desk: self.number as u16,
             round: self.round,
-            note: self.operation.note,
+            note: operation.note,
         };
         write_lent(
             config,
             envelope,
             &self.replica.ledger.counts,
             &self.replica.ledger.cells,
-            register,
+            held,
             out,
             at,
         )

@@ -25,7 +25,6 @@ impl Server {
             return Number::Refused(Refusal::BadHouse);
         }
         let config = self.config;
-        let register = self.replica.register;
         let envelope = Envelope {
             kind: SHARE,
             server: self.number as u8,
@@ -38,7 +37,7 @@ impl Server {
             envelope,
             &self.replica.ledger.counts,
             &self.replica.ledger.cells,
-            register,
+            held,
             out,
             at,
         )

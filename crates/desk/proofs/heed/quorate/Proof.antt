@@ -1,24 +1,26 @@
 -- `quorate` meets its contract: of a map of the cluster the ledger says yes or no.
 use mathlib.Core.Path.{_≡_, refl, sym, _∙_}
 use mathlib.Core.Bool.{Bool, true, false}
+use mathlib.Core.List.{[]}
 use borrow.Author.Needs.{needs}
 use Rattle.config.specs.Answers.{decide}
 use Rattle.config.proofs.Clusters.{decide-same, decide-not-refused}
+use Rattle.ledger.specs.Ledgers.{ledgerOf}
 use Rattle.ledger.specs.Weights.{quorumOf, quorumAnswer}
 use Rattle.desk.proofs.heed.quorate.Statement.{statement}
 use Rattle.desk.proofs.heed.quorate.Tie as tie
 
 -- what is asked
 abbrev asked : tie.Start → Bool
-asked s = quorumOf (s .args .config) (s .args .ledger) (s .args .map)
+asked s = quorumOf (s .args .config) (ledgerOf [] (s .args .cells .now)) (s .args .map)
 
 -- what the ledger says
-decided : (c : tie.After-quorum) → c .quorum .result ≡ decide (asked (c .before))
+decided : (c : tie.After-quorum-lent) → c .quorum-lent .result ≡ decide (asked (c .before))
 unfolding quorumAnswer
-decided c = rw (c .quorum .ensures, c .before .pre) refl
+decided c = rw (c .quorum-lent .ensures, c .before .pre) refl
 
-quorum-requires : tie.Need-quorum-requires
-quorum-requires c κs = search needs
+quorum-lent-requires : tie.Need-quorum-lent-requires
+quorum-lent-requires c κs = search needs
 
 enum-told : tie.Need-enum-told
 enum-told c = search needs
@@ -45,4 +47,4 @@ returns-3 c = absurd (decide-not-refused (asked (c .before .before .before)) _ (
 pub quorate-spec : {M : Type 1} → statement M
 quorate-spec =
     tie.close
-    (tie.spec quorum-requires enum-told enum-told-2 enum-told-3 returns returns-2 returns-3)
+    (tie.spec quorum-lent-requires enum-told enum-told-2 enum-told-3 returns returns-2 returns-3)

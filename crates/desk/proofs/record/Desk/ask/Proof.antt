@@ -17,29 +17,33 @@ use Rattle.desk.proofs.Asks.{request-lawful, request-typed}
 use Rattle.desk.proofs.record.Desk.ask.Statement.{statement}
 use Rattle.desk.proofs.record.Desk.ask.Tie as tie
 
--- the record passes its test
-sound : (c : tie.Else1) → fits (c .before .before .before .args .self) ≡ true
-sound c = sym (c .before .fits2 .ensures) ∙ not-false _ (c .if1 .left)
+-- the entry, and the record, which passes its test
+
+abbrev start : tie.Else1 → tie.Start
+start c = c .before .before .before .before .before .before .before .before .before
+
+sound : (c : tie.Else1) → fits (start c .args .t1) ≡ true
+sound c = sym (c .before .fits-in .ensures) ∙ not-false _ (c .if1 .left)
 
 -- Where the message is written: the record passes its test, an operation runs, and the server is one of the cluster.
-
-abbrev entry : tie.Else3 → tie.Start
-entry c = c .before .before .before .before .before .before .before .before .before
 
 abbrev mode-test : tie.Else3 → tie.Else2
 mode-test c = c .before .before .before
 
 abbrev record-test : tie.Else3 → tie.Else1
-record-test c = c .before .before .before .before .before .before
+record-test c = c .before .before .before .before .before
 
-abbrev tested : tie.After-write → tie.Else3
-tested c = c .before .before .before .before
+abbrev entry : tie.Else3 → tie.Start
+entry c = start (record-test c)
+
+abbrev tested : tie.After-write-lent → tie.Else3
+tested c = c .before .before .before .before .before
 
 abbrev untold : tie.Then3 → tie.Else1
-untold c = c .before .before .before .before .before .before
+untold c = c .before .before .before .before .before
 
 abbrev desk : tie.Else3 → Desk
-desk c = entry c .args .self
+desk c = entry c .args .t1
 
 typed : (c : tie.Else3) → Typed (desk c)
 typed c = desk-is-typed (desk c) _ (entry c .good .0)
@@ -54,17 +58,17 @@ asked : (c : tie.Else3) → askOf (desk c) (entry c .args .server) (now (entry c
 unfolding askOf
 asked c = simp (sound (record-test c), eq-eqb _ _ (mode-test c .if2 .left), lt-ltb _ _ (c .if3 .left))
 
-fits-requires : tie.Need-fits-requires
-fits-requires c κs = search needs
+fits-in-requires : tie.Need-fits-in-requires
+fits-in-requires c κs = search needs
 
 returns : tie.Need-returns
 unfolding askOf
-returns c = let e = sym (c .before .fits2 .ensures) ∙ not-true _ (c .if1 .taken) in (simp e, simp e)
+returns c = let e = sym (c .before .fits-in .ensures) ∙ not-true _ (c .if1 .taken) in (simp e, simp e)
 
 returns-2 : tie.Need-returns-2
 unfolding askOf
 returns-2 c =
-    let s = sound (c .before .before .before) in
+    let s = sound (c .before .before) in
     let e = ne-eqb _ _ (c .if2 .taken) in
     (simp (s, e), simp (s, e))
 
@@ -76,14 +80,14 @@ returns-3 c =
     let e = le-ltb _ _ (c .if3 .taken) in
     (simp (s, m, e), simp (s, m, e))
 
-cast-t14 : tie.Need-cast-t14
-cast-t14 c = omega (arith, envelope-typed (c .before) .server-fits)
+cast-t20 : tie.Need-cast-t20
+cast-t20 c = omega (arith, envelope-typed c .server-fits)
 
-cast-t15 : tie.Need-cast-t15
-cast-t15 c = omega (arith, envelope-typed (c .before .before) .desk-fits)
+cast-t21 : tie.Need-cast-t21
+cast-t21 c = omega (arith, envelope-typed c .desk-fits)
 
-write-requires : tie.Need-write-requires
-write-requires c κs = search needs
+write-lent-requires : tie.Need-write-lent-requires
+write-lent-requires c κs = search needs
 
 same-length : tie.Need-same-length
 same-length c = search needs
@@ -98,8 +102,8 @@ returns-4 c =
     let placed =
     write-placed (x .config) (requestEnvelope x (a .server)) (x .replica)
     (envelope-typed test) (typed test .replica-typed) good (fits-told x s .replica-fits) (now (a .out)) (a .at) in
-    let sent = c .before .before .write .ensures in
-    let request : c .before .before .write .result ≡ writeOf (x .config) (requestEnvelope x (a .server)) (x .replica) (now (a .out)) (a .at) .answer =
+    let sent = c .before .before .write-lent .ensures in
+    let request : c .before .before .write-lent .result ≡ writeOf (x .config) (requestEnvelope x (a .server)) (x .replica) (now (a .out)) (a .at) .answer =
     sent .0 in
     let same = placed ∙ sym (asked test) in
     (request ∙ ap (λ (w : Written). w .answer) same, sent .1 ∙ ap (λ (w : Written). w .out) same)
@@ -108,12 +112,12 @@ pub ask-spec : {M : Type 1} → statement M
 ask-spec =
     tie.close
     (tie.spec
-    fits-requires
+    fits-in-requires
     returns
     returns-2
     returns-3
-    cast-t14
-    cast-t15
-    write-requires
+    cast-t20
+    cast-t21
+    write-lent-requires
     same-length
     returns-4)

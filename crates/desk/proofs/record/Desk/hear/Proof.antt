@@ -15,20 +15,26 @@ use Rattle.desk.proofs.Told.{hear-unfit, hear-taken, hear-untaken}
 use Rattle.desk.proofs.record.Desk.hear.Statement.{statement}
 use Rattle.desk.proofs.record.Desk.hear.Tie as tie
 
-fits-requires : tie.Need-fits-requires
-fits-requires c κs = search needs
+fits-in-requires : tie.Need-fits-in-requires
+fits-in-requires c κs = search needs
 
 unheard-requires : tie.Need-unheard-requires
 unheard-requires c κs = search needs
 
 returns : tie.Need-returns
-returns c = c .unheard .ensures ∙ sym (hear-unfit _ _ (sym (c .before .before .fits2 .ensures) ∙ not-true _ (c .before .if1 .taken)))
+returns c = c .unheard .ensures ∙ sym (hear-unfit _ _ (sym (c .before .before .fits-in .ensures) ∙ not-true _ (c .before .if1 .taken)))
+
+abbrev tested : tie.After-receive → tie.After-fits-in
+tested c = c .before .before .before
+
+abbrev untested : tie.After-fits-in → tie.After-shared-slice-known
+untested c = c .before .before .before .before .before .before .before
 
 abbrev entry : tie.After-receive → tie.Start
-entry c = c .before .before .before .before
+entry c = untested (tested c) .before
 
-fitting : (c : tie.After-receive) → fits (entry c .args .self) ≡ true
-fitting c = sym (c .before .before .fits2 .ensures) ∙ not-false _ (c .before .if1 .left)
+fitting : (c : tie.After-receive) → fits (entry c .args .t1) ≡ true
+fitting c = sym (tested c .fits-in .ensures) ∙ not-false _ (c .before .before .if1 .left)
 
 receive-requires : tie.Need-receive-requires
 receive-requires c κs = search needs
@@ -41,19 +47,23 @@ enum-told c = search needs
 abbrev got : tie.After-enum-told → tie.After-receive
 got c = c .before .before .before .before
 
+abbrev heeded : tie.After-hear-fields → tie.After-enum-told
+heeded c = c .before .before .before .before
+
 abbrev got-refused : tie.After-unheard2 → tie.After-receive
 got-refused c = c .before .before .before .before .before .before
 
 accepts : (c : tie.After-enum-told)
-    → receiveOf (entry (got c) .args .self .config) (now (entry (got c) .args .msg)) .verdict ≡ Verdict.Accepted
+    → receiveOf (entry (got c) .args .t1 .config) (now (entry (got c) .args .msg)) .verdict ≡ Verdict.Accepted
 accepts c = sym (ap (λ (x : Received). x .verdict) (got c .receive .ensures)) ∙ c .enum-told .given .1
 
 hear-fields-requires : tie.Need-hear-fields-requires
 hear-fields-requires c κs =
-    let s = entry (got c) in
-    let known = got c .before .before .before .shared-slice-known .given in
+    let taken : tie.After-enum-told = c .before .before .before in
+    let s = entry (got taken) in
+    let known = untested (tested (got taken)) .shared-slice-known .given in
     let bytes : Bytes (now (s .args .msg)) = record { byte = λ k. omega (arith, known k) } in
-    (fitting (got c), rw (got c .receive .ensures) (receive-told (s .args .self .config) (now (s .args .msg)) bytes (accepts c)))
+    (fitting (got taken), rw (got taken .receive .ensures) (receive-told (s .args .t1 .config) (now (s .args .msg)) bytes (accepts taken)))
 
 enum-known-verdict : tie.Need-enum-known-verdict
 enum-known-verdict c = search needs
@@ -63,8 +73,9 @@ unheard-requires-2 c κs = search needs
 
 returns-2 : tie.Need-returns-2
 returns-2 c =
-    let r : tie.After-receive = got (c .before) in
-    c .hear-fields .ensures ∙ sym (hear-taken _ _ _ (fitting r) (r .receive .ensures) (c .before .enum-told .given .1))
+    let taken = heeded c in
+    let r = got taken in
+    c .hear-fields .ensures ∙ sym (hear-taken _ _ _ (fitting r) (r .receive .ensures) (taken .enum-told .given .1))
 
 returns-3 : tie.Need-returns-3
 returns-3 c =
@@ -75,7 +86,7 @@ pub hear-spec : {M : Type 1} → statement M
 hear-spec =
     tie.close
     (tie.spec
-    fits-requires
+    fits-in-requires
     unheard-requires
     returns
     receive-requires

@@ -26,13 +26,13 @@ abbrev entry : tie.Else1 → tie.Start
 entry c = c .before .before .before .before .before .before .before .before
 
 abbrev tested : tie.After-write-lent → tie.Else1
-tested c = c .before .before .before .before .before .before .before
+tested c = c .before .before .before .before .before .before
 
 fitting : (c : tie.Else1) → fits (entry c .args .t1) ≡ true
 fitting c = sym (c .before .fits-in .ensures) ∙ not-false _ (c .if1 .left)
 
-cast-t16 : tie.Need-cast-t16
-cast-t16 c = omega (arith, server-small _ _ (fits-told _ (fitting (c .before .before)) .server-in))
+cast-t15 : tie.Need-cast-t15
+cast-t15 c = omega (arith, server-small _ _ (fits-told _ (fitting (c .before)) .server-in))
 
 write-lent-requires : tie.Need-write-lent-requires
 write-lent-requires c κs = search needs
@@ -50,4 +50,4 @@ returns-2 c =
 
 pub share-spec : {M : Type 1} → statement M
 share-spec =
-    tie.close (tie.spec fits-in-requires returns cast-t16 write-lent-requires same-length returns-2)
+    tie.close (tie.spec fits-in-requires returns cast-t15 write-lent-requires same-length returns-2)
