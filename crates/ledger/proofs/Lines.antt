@@ -68,10 +68,6 @@ sides-in c l n most q b s =
 abbrev pub inCells : List ℕ → Ledger
 inCells cells = ledgerOf [] cells
 
-pub accounts-cells : (c : Config) (l : Ledger) → accountsOf c (inCells (l .cells)) ≡ accountsOf c l
-unfolding receivedOf givenOf
-accounts-cells c l = refl
-
 pub given-cells : (l : Ledger) → givenOf (inCells (l .cells)) ≡ givenOf l
 unfolding givenOf
 given-cells l = refl

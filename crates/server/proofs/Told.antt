@@ -5,7 +5,6 @@ use mathlib.Core.Bool.{Bool, true, false, cond, not, false≢true}
 use mathlib.Core.List.{List}
 use lib.Dec.{eqb, ltb}
 use lib.ListN.{length}
-use Rattle.config.specs.Cluster.{validOf}
 use Rattle.config.specs.Refusals.{refusal}
 use Rattle.config.specs.declared.answer.Refusal.{Refusal}
 use Rattle.config.specs.declared.answer.Verdict.{Verdict}

@@ -9,7 +9,6 @@ use Rattle.config.specs.declared.cluster.Config.{Config}
 use Rattle.format.specs.Bytes.{stands}
 use Rattle.format.specs.Table.{registerMark, fieldMap}
 use Rattle.replica.specs.declared.register.Register.{Register}
-use Rattle.replica.specs.declared.replica.Replica.{Replica}
 use Rattle.message.specs.declared.envelope.Envelope.{Envelope}
 use Rattle.writer.specs.declared.outline.Outline.{Outline}
 

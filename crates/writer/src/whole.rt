@@ -8,7 +8,7 @@ use config::Config;
 use message::Envelope;
 use replica::Register;
 ghost use mathlib.Core.Path.{_≡_};
-ghost use Prim.Native.Nat.{ℕ, _*_, _+_, _≤_};
+ghost use Prim.Native.Nat.{_*_, _+_, _≤_};
 ghost use lib.ListN.{length, getD};
 ghost use Rattle.ledger.specs.Tables.{table};
 ghost use Rattle.format.specs.Table.{cellMap, rowMap, fieldMapOf};
