@@ -27,6 +27,10 @@ returns c =
     let out : mapOf (a .config) (a .map) ≡ false = sym (c .before .within .ensures) ∙ not-true _ (c .if1 .taken) in
     simp out
 
+-- the map names servers of the cluster
+in-cluster : (c : tie.Else1) → mapOf (c .before .before .before .args .config) (c .before .before .before .args .map) ≡ true
+in-cluster c = sym (c .before .within .ensures) ∙ not-false _ (c .if1 .left)
+
 total-requires : tie.Need-total-requires
 total-requires c κs = search needs
 
@@ -38,19 +42,24 @@ enum-told c = search needs
 
 returns-2 : tie.Need-returns-2
 returns-2 c =
-    let m = sym (c .before .before .before .before .within .ensures) ∙ not-false _ (c .before .before .before .if1 .left) in
-    let no : false ≡ true = sym (total-refused _ _ (sym (c .before .before .total .ensures) ∙ c .enum-told .given .1)) ∙ map-valid _ _ m .0 in
+    let no : false ≡ true = sym (total-refused _ _ (sym (c .before .before .total .ensures) ∙ c .enum-told .given .1)) ∙ map-valid _ _ (in-cluster (c .before .before .before)) .0 in
     let z : _≡_ {A = ℕ} 0 1 = cc in
     absurd (omega arith)
 
-mapped : (c : tie.After-known-told) → mapOf (c .before .before .before .before .before .before .before .args .config) (c .before .before .before .before .before .before .before .args .map) ≡ true
-mapped c = sym (c .before .before .before .before .before .within .ensures) ∙ not-false _ (c .before .before .before .before .if1 .left)
+abbrev tested : tie.After-known-told → tie.Else1
+tested c = c .before .before .before .before
 
-total-is : (c : tie.After-known-told) → c .before .total2 .given .0 .0 ≡ totalOf (c .before .before .before .before .before .before .before .args .config)
+abbrev start : tie.After-known-told → tie.Start
+start c = tested c .before .before .before
+
+mapped : (c : tie.After-known-told) → mapOf (start c .args .config) (start c .args .map) ≡ true
+mapped c = in-cluster (tested c)
+
+total-is : (c : tie.After-known-told) → c .before .total2 .given .0 .0 ≡ totalOf (start c .args .config)
 total-is c = total-told _ _ (sym (c .before .before .before .total .ensures) ∙ c .before .total2 .given .1) .1
 
 balance-in-requires : tie.Need-balance-in-requires
-balance-in-requires c κs = (c .before .before .before .before .before .before .before .pre, map-valid _ _ (mapped c) .0)
+balance-in-requires c κs = (start c .pre, map-valid _ _ (mapped c) .0)
 
 mul-difference : tie.Need-mul-difference
 mul-difference c = search needs
@@ -82,7 +91,7 @@ returns-3 c =
     (read-back (c .difference .result) (c .difference .ok)
     ∙ c .difference .ensures
     ∙ ap (λ w. difference (2 * b .result .held) (2 * b .result .given + w)) (total-is known)
-    ∙ margin-balance _ _ _ _ _ (sides-in _ (inCells (known .before .before .before .before .before .before .before .args .cells .now)) _ _ _ _ (b .ensures))))
+    ∙ margin-balance _ _ _ _ _ (sides-in _ (inCells (start known .args .cells .now)) _ _ _ _ (b .ensures))))
 
 pub margin-in-spec : {M : Type 1} → statement M
 margin-in-spec =

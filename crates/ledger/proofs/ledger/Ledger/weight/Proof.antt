@@ -1,7 +1,9 @@
 -- `weight` meets its contract: the difference of the two sides of the balance.
-use mathlib.Core.Path.{sym, ap, _∙_}
+use mathlib.Core.Path.{_≡_, sym, ap, _∙_}
+use mathlib.Core.Bool.{true}
 use borrow.Author.Needs.{needs}
 use borrow.Author.Tests.{not-true, not-false}
+use Rattle.config.specs.Cluster.{serverOf}
 use Rattle.config.specs.declared.answer.Signed.{Signed}
 use Rattle.ledger.specs.Weights.{weightAnswer}
 use Rattle.ledger.proofs.Lines.{sides-of}
@@ -16,8 +18,15 @@ returns : tie.Need-returns
 unfolding weightAnswer
 returns c = simp (sym (c .before .has .ensures) ∙ not-true _ (c .if1 .taken))
 
+-- the server is one of the cluster's
+one-of : (c : tie.Else1) → serverOf (c .before .before .args .config) (c .before .before .args .server) ≡ true
+one-of c = sym (c .before .has .ensures) ∙ not-false _ (c .if1 .left)
+
+abbrev tested : tie.After-balance-of → tie.Else1
+tested c = c .before .before .before .before
+
 balance-of-requires : tie.Need-balance-of-requires
-balance-of-requires c κs = (search needs, sym (c .before .before .before .before .has .ensures) ∙ not-false _ (c .before .before .before .if1 .left))
+balance-of-requires c κs = (search needs, one-of (c .before .before .before))
 
 difference-requires : tie.Need-difference-requires
 difference-requires c κs = search needs
@@ -25,8 +34,9 @@ difference-requires c κs = search needs
 returns-2 : tie.Need-returns-2
 unfolding weightAnswer
 returns-2 c =
-    simp (sym (c .before .before .before .before .before .before .has .ensures) ∙ not-false _ (c .before .before .before .before .before .if1 .left))
-    (ap Signed.Value (read-back (c .difference .result) (c .difference .ok) ∙ c .difference .ensures ∙ weight-balance _ _ _ _ _ (sides-of _ (c .before .before .before .before .before .before .before .args .t1) _ _ _ (c .before .balance-of .ensures))))
+    let e = tested (c .before) in
+    simp (one-of e)
+    (ap Signed.Value (read-back (c .difference .result) (c .difference .ok) ∙ c .difference .ensures ∙ weight-balance _ _ _ _ _ (sides-of _ (e .before .before .args .t1) _ _ _ (c .before .balance-of .ensures))))
 
 pub weight-spec : {M : Type 1} → statement M
 weight-spec =

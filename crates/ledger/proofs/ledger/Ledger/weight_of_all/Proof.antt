@@ -1,7 +1,9 @@
 -- `weight_of_all` meets its contract: the map of all ones names every server.
-use mathlib.Core.Path.{sym, ap, _∙_}
+use mathlib.Core.Path.{_≡_, sym, ap, _∙_}
+use mathlib.Core.Bool.{true}
 use borrow.Author.Needs.{needs}
 use borrow.Author.Tests.{not-true, not-false}
+use Rattle.config.specs.Cluster.{validOf}
 use Rattle.config.specs.declared.answer.Signed.{Signed}
 use Rattle.ledger.specs.Weights.{allAnswer}
 use Rattle.ledger.proofs.Lines.{sides-in}
@@ -16,8 +18,14 @@ returns : tie.Need-returns
 unfolding allAnswer
 returns c = simp (sym (c .before .valid .ensures) ∙ not-true _ (c .if1 .taken))
 
+valid : (c : tie.Else1) → validOf (c .before .before .args .config) ≡ true
+valid c = sym (c .before .valid .ensures) ∙ not-false _ (c .if1 .left)
+
+abbrev tested : tie.After-balance-in → tie.Else1
+tested c = c .before .before .before .before
+
 balance-in-requires : tie.Need-balance-in-requires
-balance-in-requires c κs = (search needs, sym (c .before .before .before .before .valid .ensures) ∙ not-false _ (c .before .before .before .if1 .left))
+balance-in-requires c κs = (search needs, valid (c .before .before .before))
 
 difference-requires : tie.Need-difference-requires
 difference-requires c κs = search needs
@@ -25,8 +33,8 @@ difference-requires c κs = search needs
 returns-2 : tie.Need-returns-2
 unfolding allAnswer
 returns-2 c =
-    let v = sym (c .before .before .before .before .before .before .valid .ensures) ∙ not-false _ (c .before .before .before .before .before .if1 .left) in
-    simp v (ap Signed.Value (read-back (c .difference .result) (c .difference .ok) ∙ c .difference .ensures ∙ all-balance _ _ _ _ v (sides-in _ (c .before .before .before .before .before .before .before .args .t1) _ _ _ _ (c .before .balance-in .ensures))))
+    let e = tested (c .before) in
+    simp (valid e) (ap Signed.Value (read-back (c .difference .result) (c .difference .ok) ∙ c .difference .ensures ∙ all-balance _ _ _ _ (valid e) (sides-in _ (e .before .before .args .t1) _ _ _ _ (c .before .balance-in .ensures))))
 
 pub weight-of-all-spec : {M : Type 1} → statement M
 weight-of-all-spec =
