@@ -4,14 +4,12 @@ use Prim.Native.Nat.{ℕ}
 use mathlib.Core.Path.{_≡_, refl, sym, ap, _∙_}
 use mathlib.Core.Bool.{Bool, true, false, cond}
 use mathlib.Core.List.{List, []}
-use borrow.Author.Tests.{eq-eqb, ne-eqb}
+use borrow.Author.Tests.{eq-eqb}
 use lib.Dec.{eqb}
-use Rattle.quorums.proofs.Tests.{fails}
 use Rattle.config.specs.declared.cluster.Config.{Config}
 use Rattle.config.specs.Refusals.{refusal}
 use Rattle.config.specs.declared.answer.Refusal.{Refusal}
 use Rattle.config.specs.declared.answer.Verdict.{Verdict}
-use Rattle.config.specs.declared.answer.Number.{Number}
 use Rattle.replica.specs.declared.replica.Replica.{Replica}
 use Rattle.ledger.specs.Tables.{run, table}
 use Rattle.replica.specs.Values.{bytesOf, emptyValue}
@@ -23,7 +21,7 @@ use Rattle.message.specs.declared.envelope.Envelope.{Envelope}
 use Rattle.message.specs.declared.answer.Received.{Received}
 use Rattle.message.specs.Envelopes.{blankEnvelope, carried, messageOf, trimmedReplica, Typed, Bytes}
 use Rattle.message.specs.Scans.{scanOf}
-use Rattle.message.specs.Answers.{check, verdictOf, valuePart, acceptedOf, refusedOf, receiveOf, valueAnswer, place, writeOf, sendOf, Written}
+use Rattle.message.specs.Answers.{check, verdictOf, valuePart, acceptedOf, refusedOf, receiveOf, valueAnswer, place, writeOf}
 use Rattle.message.specs.Faults.{lawful, Passed}
 use Rattle.message.proofs.Found.{taken-told, received-found}
 use Rattle.message.proofs.Numbers.{accepted-check, refused-check, received-verdict}
@@ -73,19 +71,6 @@ module _ (c : Config) (e : Envelope) (r : Replica) (t : Typed e) (s : TypedRepli
       sym (value-received c (messageOf c e r))
       ∙ ap (λ (x : Received). bytesOf (x .replica .register .value)) received-back
       ∙ trimmed-bytes (r .register .value) short
-
--- What a party sends with a lawful envelope is its record's own test, and then the message, wherever there is room.
-pub send-held : (c : Config) (e : Envelope) (r : Replica) → Typed e → TypedReplica r → lawful c e ≡ true → (out : List ℕ) (at : ℕ)
-    → sendOf c e r out at ≡ cond (fits c r) (place (messageOf c e r) out at) (record { answer = Number.Refused (refusal 1); out = out })
-unfolding sendOf
-send-held c e r t s l out at = by-test (fits c r) refl
-  where
-    by-test : (b : Bool) → fits c r ≡ b
-        → cond (eqb (check c (messageOf c e r)) 0) (place (messageOf c e r) out at) (record { answer = Number.Refused (refusal 1); out = out })
-        ≡ cond b (place (messageOf c e r) out at) (record { answer = Number.Refused (refusal 1); out = out })
-    by-test true f = rw (eq-eqb (check c (messageOf c e r)) 0 (sent-check c e r t s l f)) refl
-    by-test false f =
-        rw (ne-eqb (check c (messageOf c e r)) 0 (fails (fits c r) (sent-check c e r t s l, λ k. taken-told c e r t s .0 k .1) .0 f)) refl
 
 -- ---- reading
 

@@ -3,7 +3,7 @@ use Prim.Native.Nat.{ℕ, suc, _<_}
 use native.Mathlib.Omega.{arith}
 use mathlib.Core.Path.{_≡_, refl, sym, _∙_}
 use mathlib.Core.Logic.{_↔_}
-use mathlib.Core.Bool.{Bool, true, false}
+use mathlib.Core.Bool.{Bool, true, false, cond}
 use mathlib.Core.List.{List}
 use borrow.Author.Tests.{ltb-true, eq-eqb}
 use lib.Dec.{ltb}
@@ -24,8 +24,8 @@ use Rattle.replica.proofs.Replicas.{fits-told, told-fits}
 use Rattle.message.specs.declared.envelope.Envelope.{Envelope}
 use Rattle.message.specs.Envelopes.{messageOf, trimmedReplica, Typed}
 use Rattle.message.specs.Cursors.{within}
-use Rattle.message.specs.Answers.{check, receiveOf, writeOf}
-use Rattle.message.specs.Faults.{kindFits, lawful, test, faultOf}
+use Rattle.message.specs.Answers.{Written, check, receiveOf, place, writeOf}
+use Rattle.message.specs.Faults.{kindFits, lawful, test, faultOf, sendOf}
 use Rattle.message.proofs.Faults.{HeadGood, message-found, fault-is-check}
 use Rattle.message.proofs.Lawful.{lawful-told, told-lawful}
 
@@ -55,6 +55,29 @@ module _ (c : Config) (e : Envelope) (r : Replica) where
       let k = lawful-told c e l in
       let g = fits-told c r f in
       simp (g .valid, k .kind-good, k .fields-good, k .server-good, g .register-fits, g .ledger-bounded, g .ledger-above)
+
+  -- what a party sends: the message where there is no fault, else 1
+
+  pub fault-sends : faultOf c e r ≡ 0 → (out : List ℕ) (at : ℕ) → place (messageOf c e r) out at ≡ sendOf c e r out at
+  unfolding sendOf
+  fault-sends none out at = let t = faultless none in simp (t .0, t .1)
+
+  pub fault-sends-none : (faultOf c e r ≡ 0 → ⊥) → (out : List ℕ) (at : ℕ) → record { answer = Number.Refused (refusal 1); out = out } ≡ sendOf c e r out at
+  unfolding sendOf
+  fault-sends-none some out at = by-tests (lawful c e) (fits c r) refl refl
+    where
+      by-tests : (l f : Bool) → lawful c e ≡ l → fits c r ≡ f
+          → record { answer = Number.Refused (refusal 1); out = out }
+          ≡ cond l (cond f (place (messageOf c e r) out at) (record { answer = Number.Refused (refusal 1); out = out })) (record { answer = Number.Refused (refusal 1); out = out })
+      by-tests true true a b = absurd (some (no-fault a b))
+      by-tests true false a b = refl
+      by-tests false f a b = refl
+
+  -- with a lawful envelope that is the test of the replica, and then the message
+  pub sends-held : lawful c e ≡ true → (out : List ℕ) (at : ℕ)
+      → sendOf c e r out at ≡ cond (fits c r) (place (messageOf c e r) out at) (record { answer = Number.Refused (refusal 1); out = out })
+  unfolding sendOf
+  sends-held l out at = simp l
 
   long-fault : validOf c ≡ true → lawful c e ≡ true → mostValue < r .register .value .length → faultOf c e r ≡ 4
   unfolding faultOf

@@ -100,11 +100,6 @@ writeOf c e r out at =
     cond (eqb (check c (messageOf c e r)) 0) (place (messageOf c e r) out at)
     (record { answer = Number.Refused (refusal (check c (messageOf c e r))); out = out })
 
--- What a party sends of what it holds: 1 where the reader would refuse the message, then 13; else the place after it.
-unfoldable pub sendOf : Config → Envelope → Replica → List ℕ → ℕ → Written
-sendOf c e r out at =
-    cond (eqb (check c (messageOf c e r)) 0) (place (messageOf c e r) out at) (record { answer = Number.Refused (refusal 1); out = out })
-
 -- the bytes of a buffer from a place up to another
 abbrev pub between : List ℕ → ℕ → ℕ → List ℕ
 between out at next = take (next - at) (drop at out)

@@ -2,15 +2,19 @@
 use Prim.Native.Nat.{ℕ}
 use mathlib.Core.Path.{_≡_}
 use mathlib.Core.Bool.{Bool, true, false, cond, not}
+use mathlib.Core.List.{List}
 use lib.Dec.{eqb, ltb}
 use Rattle.config.specs.Cluster.{validOf}
 use Rattle.config.specs.declared.cluster.Config.{Config}
+use Rattle.config.specs.Refusals.{refusal}
+use Rattle.config.specs.declared.answer.Number.{Number}
 use Rattle.ledger.specs.Checks.{bounded, aboveFloor}
 use Rattle.replica.specs.declared.replica.Replica.{Replica}
 use Rattle.replica.specs.Registers.{registerFits}
 use Rattle.replica.specs.Replicas.{fits, Typed as TypedReplica}
 use Rattle.message.specs.declared.envelope.Envelope.{Envelope}
-use Rattle.message.specs.Envelopes.{Typed}
+use Rattle.message.specs.Envelopes.{Typed, messageOf}
+use Rattle.message.specs.Answers.{Written, place}
 use Rattle.message.specs.Cursors.{within}
 
 -- whether the fields that stand are those that the kind has: a share has neither desk, round nor note, others have a desk and a round
@@ -33,6 +37,12 @@ faultOf c e r =
     (test (kindFits (e .kind) (e .desk) (e .round) (e .note)) 3
     (test (ltb (e .server) (c .n)) 4
     (test (registerFits c (r .register)) 4 (test (bounded c (r .ledger)) 4 (test (aboveFloor c (r .ledger)) 5 0))))))
+
+-- What a party sends of what it holds, by its own record test: 1 where the envelope is not lawful or the replica does not fit, then 13; else the place after the message.
+unfoldable pub sendOf : Config → Envelope → Replica → List ℕ → ℕ → Written
+sendOf c e r out at =
+    cond (lawful c e) (cond (fits c r) (place (messageOf c e r) out at) (record { answer = Number.Refused (refusal 1); out = out }))
+    (record { answer = Number.Refused (refusal 1); out = out })
 
 -- What is known of the envelope and the replica of a message that has passed its checks.
 pub record Passed (c : Config) (e : Envelope) (r : Replica) : Type 0 where
