@@ -15,41 +15,7 @@ use Rattle.ledger.specs.Checks.{bounded, aboveFloor, fits, boundsAnswer,
 pub accepted-not-refused : {A : Type 0} (r : Refusal) → Verdict.Accepted ≡ Verdict.Refused r → A
 accepted-not-refused r e = let z : _≡_ {A = ℕ} 0 1 = cc in absurd (omega arith)
 
--- within bounds, the floor decides
-pub check-floor : (c : Config) (l : Ledger) → boundsAnswer c l ≡ Verdict.Accepted → floorAnswer c l ≡ checkAnswer c l
-unfolding boundsAnswer floorAnswer checkAnswer
-check-floor c l e = by-tests (validOf c) (bounded c l) e
-  where
-    by-tests : (v b : Bool)
-        → cond v (cond b Verdict.Accepted (Verdict.Refused (refusal 4))) (Verdict.Refused (refusal 1)) ≡ Verdict.Accepted
-        → cond v (cond (aboveFloor c l) Verdict.Accepted (Verdict.Refused (refusal 5))) (Verdict.Refused (refusal 1))
-        ≡ cond v (cond b (cond (aboveFloor c l) Verdict.Accepted (Verdict.Refused (refusal 5))) (Verdict.Refused (refusal 4))) (Verdict.Refused (refusal 1))
-    by-tests true true d = refl
-    by-tests true false d = accepted-not-refused _ (sym d)
-    by-tests false b d = refl
-
--- and out of bounds, the bounds
-pub check-bounds : (c : Config) (l : Ledger) (r : Refusal) → boundsAnswer c l ≡ Verdict.Refused r → Verdict.Refused r ≡ checkAnswer c l
-unfolding boundsAnswer checkAnswer
-check-bounds c l r e = by-tests (validOf c) (bounded c l) e
-  where
-    by-tests : (v b : Bool)
-        → cond v (cond b Verdict.Accepted (Verdict.Refused (refusal 4))) (Verdict.Refused (refusal 1)) ≡ Verdict.Refused r
-        → Verdict.Refused r
-        ≡ cond v (cond b (cond (aboveFloor c l) Verdict.Accepted (Verdict.Refused (refusal 5))) (Verdict.Refused (refusal 4))) (Verdict.Refused (refusal 1))
-    by-tests true true d = accepted-not-refused r d
-    by-tests true false d = sym d
-    by-tests false b d = sym d
-
 -- what an answer of `check_floor` tells of a valid cluster
-pub bounds-told : (c : Config) (l : Ledger) → validOf c ≡ true → boundsAnswer c l ≡ Verdict.Accepted → bounded c l ≡ true
-unfolding boundsAnswer
-bounds-told c l v e = chosen-first (bounded c l) _ _ _ (λ d. accepted-not-refused _ (sym d)) (rw v at e) .0
-
-pub bounds-refused : (c : Config) (l : Ledger) (r : Refusal) → validOf c ≡ true → boundsAnswer c l ≡ Verdict.Refused r → bounded c l ≡ false
-unfolding boundsAnswer
-bounds-refused c l r v e = chosen-second (bounded c l) _ _ _ (accepted-not-refused r) (rw v at e)
-
 pub floor-told : (c : Config) (l : Ledger) → validOf c ≡ true → floorAnswer c l ≡ Verdict.Accepted → aboveFloor c l ≡ true
 unfolding floorAnswer
 floor-told c l v e = chosen-first (aboveFloor c l) _ _ _ (λ d. accepted-not-refused _ (sym d)) (rw v at e) .0
@@ -66,3 +32,19 @@ ledger-told c l e = both (bounded c l) _ e
 pub told-ledger : (c : Config) (l : Ledger) → bounded c l ≡ true → aboveFloor c l ≡ true → fits c l ≡ true
 unfolding fits
 told-ledger c l b a = rw b a
+
+-- what an answer of `check` tells of a valid cluster
+pub check-told : (c : Config) (l : Ledger) → validOf c ≡ true → checkAnswer c l ≡ Verdict.Accepted → fits c l ≡ true
+unfolding checkAnswer fits
+check-told c l v e =
+    let b = chosen-first (bounded c l) _ _ _ (λ d. accepted-not-refused _ (sym d)) (rw v at e) in
+    rw (b .0) (chosen-first (aboveFloor c l) _ _ _ (λ d. accepted-not-refused _ (sym d)) (b .1) .0)
+
+pub check-refused : (c : Config) (l : Ledger) (r : Refusal) → validOf c ≡ true → checkAnswer c l ≡ Verdict.Refused r → fits c l ≡ false
+unfolding checkAnswer fits
+check-refused c l r v e = by-tests (bounded c l) (aboveFloor c l) (rw v at e)
+  where
+    by-tests : (b f : Bool) → cond b (cond f Verdict.Accepted (Verdict.Refused (refusal 5))) (Verdict.Refused (refusal 4)) ≡ Verdict.Refused r → cond b f false ≡ false
+    by-tests true true d = accepted-not-refused r d
+    by-tests true false d = refl
+    by-tests false f d = refl

@@ -5,6 +5,8 @@ pub mod Maps
 pub mod Answers
 pub mod Checks
 pub mod Tables
+pub mod Tallies
+pub mod Weights
 pub mod Joins
 pub mod Changes
 pub mod Totals
@@ -16,6 +18,7 @@ pub mod Compared
 pub mod Fresh
 pub mod Added
 pub mod Spared
-pub mod Cells
+pub mod Faults
+pub mod Summed
 pub mod Meeting
 pub mod Ranges

@@ -83,7 +83,3 @@ margin-cells c l m = refl
 pub quorum-cells : (c : Config) (l : Ledger) (m : ℕ) → quorumAnswer c (inCells (l .cells)) m ≡ quorumAnswer c l m
 unfolding quorumAnswer quorumOf receivedOf givenOf
 quorum-cells c l m = refl
-
-pub above-cells : (c : Config) (l : Ledger) → aboveFloor c (inCells (l .cells)) ≡ aboveFloor c l
-unfolding aboveFloor weightOf receivedOf givenOf
-above-cells c l = refl

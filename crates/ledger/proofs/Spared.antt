@@ -14,18 +14,21 @@ use Rattle.quorums.proofs.Tests.{le-or-lt}
 use Rattle.quorums.proofs.Differences.{difference-less, difference-more}
 use Rattle.quorums.proofs.Weights.{above-grows}
 use Rattle.config.specs.Refusals.{refusal}
+use Rattle.config.specs.declared.answer.Refusal.{Refusal}
+use Rattle.config.specs.declared.answer.Verdict.{Verdict}
 use Rattle.config.specs.Cluster.{validOf, serverOf, startOf, totalOf, aboveOf, leastOf, mostWeight}
 use Rattle.config.specs.declared.cluster.Config.{Config}
 use Rattle.config.proofs.Clusters.{valid-bounds, server-valid, total-small, above-least}
 use Rattle.ledger.specs.declared.ledger.Ledger.{Ledger}
+use Rattle.ledger.specs.declared.ledger.Changed.{Changed}
 use Rattle.ledger.specs.Ledgers.{countOf, cellOf, givenOf, receivedOf, accountsOf, refused, accepted, Typed}
 use Rattle.ledger.specs.Weights.{weightOf}
 use Rattle.ledger.specs.Checks.{rowFits, serverAbove, bounded, aboveFloor, fits}
-use Rattle.ledger.specs.Changes.{lawful, mostCount, spares, added, giveAnswer, addAnswer}
+use Rattle.ledger.specs.Changes.{lawful, mostCount, spares, added, giveVerdict, giveAnswer, addAnswer}
 use Rattle.ledger.proofs.Lines.{inCells}
 use Rattle.ledger.proofs.Totals.{bounded-told, total-fits-told, received-given}
 use Rattle.ledger.proofs.Majorities.{each-above}
-use Rattle.ledger.proofs.Checks.{ledger-told, told-ledger}
+use Rattle.ledger.proofs.Checks.{accepted-not-refused, ledger-told, told-ledger}
 use Rattle.ledger.proofs.Changes.{lawful-told}
 use Rattle.ledger.proofs.Kept.{added-typed}
 use Rattle.ledger.proofs.Added.{giver-weight, taker-weight, other-weight, added-bounded}
@@ -87,11 +90,6 @@ spared-room c l i j d v b a hi hj h e =
     let t = total-fits-told (countOf l i) (givenOf l i) (all-each 16 (rowFits l) (bounded-told c l b .1) i (omega (arith, most))) in
     omega (arith, t .1, cell-small l i j (omega (arith, most)), spared-small c l i d v b a hi e)
 
--- weights are about cells alone
-pub spares-cells : (c : Config) (l : Ledger) (i d : ℕ) → spares c (inCells (l .cells)) i d ≡ spares c l i d
-unfolding spares weightOf receivedOf givenOf
-spares-cells c l i d = refl
-
 -- ---- what a transfer keeps
 
 -- a weight above the floor stays so with more
@@ -131,7 +129,7 @@ added-kept c l i j d t v hi w b a p =
 -- ---- what `add` hands back
 
 -- the tests that a transfer passes
-record Adds (c : Config) (l : Ledger) (i j d : ℕ) : Type 0 where
+pub record Adds (c : Config) (l : Ledger) (i j d : ℕ) : Type 0 where
   pub one-of : serverOf c i ≡ true
   pub sound : fits c l ≡ true
   pub legal : lawful c i j d ≡ true
@@ -151,6 +149,51 @@ add-cases P c l i j d done left =
     by-tests true true false t p a b e k g = left
     by-tests true false w t p a b e k g = left
     by-tests false f w t p a b e k g = left
+
+-- an accepted transfer has passed them and is added; a refused one leaves the ledger as it was
+
+module _ (c : Config) (l : Ledger) (i j d : ℕ) where
+  AddsOrLeaves : Changed → Type 0
+  AddsOrLeaves x = (x .verdict ≡ Verdict.Accepted → Adds c l i j d × (x .ledger ≡ added l i j d)) × ((r : Refusal) → x .verdict ≡ Verdict.Refused r → x .ledger ≡ l)
+
+  leaves : (k : Refusal) → AddsOrLeaves (refused k l)
+  unfolding AddsOrLeaves
+  leaves k = (λ e. accepted-not-refused k (sym e), λ r e. refl)
+
+  adds-or-leaves : AddsOrLeaves (addAnswer c l i j d)
+  unfolding addAnswer giveAnswer AddsOrLeaves
+  adds-or-leaves = by-tests (serverOf c i) (fits c l) (lawful c i j d) (ltb (countOf l i) mostCount) (spares c l i d) refl refl refl refl refl
+    where
+      by-tests : (o f w t p : Bool) → serverOf c i ≡ o → fits c l ≡ f → lawful c i j d ≡ w → ltb (countOf l i) mostCount ≡ t → spares c l i d ≡ p
+          → AddsOrLeaves (cond o (cond f (cond w (cond t (cond p (accepted (added l i j d)) (refused (refusal 10) l)) (refused (refusal 12) l)) (refused (refusal 11) l)) (refused (refusal 1) l)) (refused (refusal 1) l))
+      by-tests true true true true true a b e k g =
+          (λ z. (record { one-of = a; sound = b; legal = e; counted = ltb-true _ _ k; spared = g }, refl), λ r z. accepted-not-refused r z)
+      by-tests true true true true false a b e k g = leaves (refusal 10)
+      by-tests true true true false p a b e k g = leaves (refusal 12)
+      by-tests true true false t p a b e k g = leaves (refusal 11)
+      by-tests true false w t p a b e k g = leaves (refusal 1)
+      by-tests false f w t p a b e k g = leaves (refusal 1)
+
+  pub add-told : addAnswer c l i j d .verdict ≡ Verdict.Accepted → Adds c l i j d × (addAnswer c l i j d .ledger ≡ added l i j d)
+  unfolding AddsOrLeaves
+  add-told = adds-or-leaves .0
+
+  pub add-left : (r : Refusal) → addAnswer c l i j d .verdict ≡ Verdict.Refused r → addAnswer c l i j d .ledger ≡ l
+  unfolding AddsOrLeaves
+  add-left = adds-or-leaves .1
+
+  -- on a ledger that fits the verdict is that of the tests of a transfer
+  pub add-gives : serverOf c i ≡ true → fits c l ≡ true → giveVerdict c i j d (countOf l i) (spares c l i d) ≡ addAnswer c l i j d .verdict
+  unfolding addAnswer giveAnswer giveVerdict
+  add-gives o f = rw (o, f) (by-tests (lawful c i j d) (ltb (countOf l i) mostCount) (spares c l i d))
+    where
+      by-tests : (w t p : Bool)
+          → cond w (cond t (cond p Verdict.Accepted (Verdict.Refused (refusal 10))) (Verdict.Refused (refusal 12))) (Verdict.Refused (refusal 11))
+          ≡ cond w (cond t (cond p (accepted (added l i j d)) (refused (refusal 10) l)) (refused (refusal 12) l)) (refused (refusal 11) l) .verdict
+      by-tests true true true = refl
+      by-tests true true false = refl
+      by-tests true false p = refl
+      by-tests false t p = refl
 
 -- A ledger that fits still does, whatever is asked.
 pub add-fits : (c : Config) (l : Ledger) (i j d : ℕ) → Typed l → fits c l ≡ true → fits c (addAnswer c l i j d .ledger) ≡ true

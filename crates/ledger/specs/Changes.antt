@@ -7,6 +7,7 @@ use lib.ListN.{set}
 use Rattle.config.specs.Cluster.{serverOf, aboveOf}
 use Rattle.config.specs.declared.cluster.Config.{Config}
 use Rattle.config.specs.Refusals.{refusal}
+use Rattle.config.specs.declared.answer.Verdict.{Verdict}
 use Rattle.ledger.specs.declared.ledger.Ledger.{Ledger}
 use Rattle.ledger.specs.declared.ledger.Changed.{Changed}
 use Rattle.ledger.specs.Ledgers.{countOf, cellOf, refused, accepted}
@@ -38,6 +39,12 @@ giveAnswer c l i j d =
     cond (lawful c i j d)
     (cond (ltb (countOf l i) mostCount) (cond (spares c l i d) (accepted (added l i j d)) (refused (refusal 10) l)) (refused (refusal 12) l))
     (refused (refusal 11) l)
+
+-- the verdict of these tests, from the giver's count and whether it can spare the amount
+unfoldable pub giveVerdict : Config → ℕ → ℕ → ℕ → ℕ → Bool → Verdict
+giveVerdict c i j d count spared =
+    cond (lawful c i j d) (cond (ltb count mostCount) (cond spared Verdict.Accepted (Verdict.Refused (refusal 10))) (Verdict.Refused (refusal 12)))
+    (Verdict.Refused (refusal 11))
 
 -- What the call answers: 1 for the cluster, for a giver that there isn't and for a ledger that is out of range or light, then 11, 12, 10, or the
 -- ledger with the transfer.

@@ -1,7 +1,6 @@
 -- Which ledgers a party may hold or send (paper 01: the ranges of "Message bytes", and the floor).
 use Prim.Native.Nat.{ℕ, _*_, _/_, _%_}
 use mathlib.Core.Bool.{Bool, true, false, cond, not}
-use mathlib.Core.List.{List}
 use lib.Dec.{leb, ltb, eqb}
 use lib.ListN.{getD}
 use Rattle.quorums.specs.Sum.{all}
@@ -10,7 +9,7 @@ use Rattle.config.specs.declared.cluster.Config.{Config}
 use Rattle.config.specs.Refusals.{refusal}
 use Rattle.config.specs.declared.answer.Verdict.{Verdict}
 use Rattle.ledger.specs.declared.ledger.Ledger.{Ledger}
-use Rattle.ledger.specs.Ledgers.{countOf, givenOf, lineOf}
+use Rattle.ledger.specs.Ledgers.{countOf, givenOf}
 use Rattle.ledger.specs.Weights.{weightOf}
 
 -- whether the cell at k, of giver k / 16 and taker k % 16, may hold x: the two are different servers below n, or x is 0
@@ -23,13 +22,6 @@ totalFits count total = cond (leb count total) (leb total (mostWeight * count)) 
 
 abbrev pub cellFits : ℕ → Ledger → ℕ → Bool
 cellFits n l k = mayHold n k (getD (l .cells) k 0)
-
--- the same of the cells of a ledger, server by server: i gave itself nothing, and where there is no server i, it gave and received nothing
-unfoldable pub serverFits : ℕ → List ℕ → ℕ → Bool
-serverFits n cells i =
-    cond (eqb (getD cells (i * 17) 0) 0)
-    (cond (ltb i n) true (cond (eqb (lineOf cells (i * 16) 1 16) 0) (eqb (lineOf cells i 16 16) 0) false))
-    false
 
 abbrev pub rowFits : Ledger → ℕ → Bool
 rowFits l i = totalFits (countOf l i) (givenOf l i)

@@ -1,21 +1,19 @@
 // One transfer more in a ledger (paper 01, "Server": Transfer).
-use super::balance::balance_of;
-use super::check::bounds;
-use super::check::floor;
 use super::ledger::Changed;
 use super::ledger::Ledger;
+use super::sums::weigh;
 use config::Config;
 use config::Number;
 use config::Refusal;
 use config::Verdict;
 ghost use mathlib.Core.Path.{_≡_};
 ghost use mathlib.Core.Bool.{true};
-ghost use mathlib.Core.List.{[]};
-ghost use lib.ListN.{length};
-ghost use Rattle.config.specs.Cluster.{serverOf};
+ghost use Prim.Native.Nat.{_+_, _*_, _-_, _≤_, _<_};
+ghost use lib.Dec.{leb};
+ghost use lib.ListN.{length, getD, set};
+ghost use Rattle.config.specs.Cluster.{validOf, serverOf, startOf, leastOf};
 ghost use Rattle.ledger.specs.Ledgers.{ledgerOf};
-ghost use Rattle.ledger.specs.Checks.{aboveFloor};
-ghost use Rattle.ledger.specs.Changes.{lawful as lawfulOf, spares as sparesOf, addAnswer};
+ghost use Rattle.ledger.specs.Changes.{lawful as lawfulOf, giveVerdict, addAnswer};
 
 // The last number of a giver's transfers.
 const MOST_COUNT: u16 = 65535;
@@ -26,36 +24,112 @@ impl Ledger {
     pub fn add(self, config: Config, giver: u64, taker: u64, amount: u64) -> Changed
         ensures { λ r. ⌜ r ≡ addAnswer config self giver taker amount ⌝ }
     {
-        if !config.has(giver) {
-            return self.refused(Refusal::BadHouse);
-        }
-        let Verdict::Accepted = bounds(&self.counts, &self.cells, config) else {
-            return self.refused(Refusal::BadHouse);
-        };
-        let Verdict::Accepted = floor(&self.cells, config) else {
-            return self.refused(Refusal::BadHouse);
-        };
-        if !lawful(config, giver, taker, amount) {
-            return self.refused(Refusal::BadTransfer);
-        }
-        let i = giver as usize;
-        let count = self.counts[i];
-        if count == MOST_COUNT {
-            return self.refused(Refusal::Spent);
-        }
-        if !spares(&self.cells, config, giver, amount) {
-            return self.refused(Refusal::Thin);
-        }
-        let at = i * 16 + taker as usize;
-        let cell = self.cells[at];
-        let mut next = self;
-        next.counts[i] = count + 1;
-        next.cells[at] = cell + amount as u32;
+        let mut counts = self.counts;
+        let mut cells = self.cells;
+        let verdict = add_lent(&mut counts, &mut cells, config, giver, taker, amount);
         Changed {
-            verdict: Verdict::Accepted,
-            ledger: next,
+            verdict,
+            ledger: Ledger { counts, cells },
         }
     }
+}
+
+// `add` on a ledger that is lent as its counts and cells, wherever it lies: they are changed there, or left as they were where the verdict is a refusal.
+pub fn add_lent(
+    counts: &mut [u16; 16],
+    cells: &mut [u32; 256],
+    config: Config,
+    giver: u64,
+    taker: u64,
+    amount: u64,
+) -> Verdict
+    ensures { λ r. ⌜ (r ≡ addAnswer config (ledgerOf (now (counts .entry)) (now (cells .entry))) giver taker amount .verdict) × (now (counts .exit) ≡ addAnswer config (ledgerOf (now (counts .entry)) (now (cells .entry))) giver taker amount .ledger .counts) × (now (cells .exit) ≡ addAnswer config (ledgerOf (now (counts .entry)) (now (cells .entry))) giver taker amount .ledger .cells) ⌝ }
+{
+    match may_add(&*counts, &*cells, config, giver, taker, amount) {
+        Verdict::Accepted => {
+            put(counts, cells, giver as usize, taker as usize, amount as u32);
+            Verdict::Accepted
+        }
+        Verdict::Refused(r) => Verdict::Refused(r),
+    }
+}
+
+// One transfer more in the giver's count and in its cell for the taker.
+fn put(counts: &mut [u16], cells: &mut [u32], giver: usize, taker: usize, amount: u32)
+    requires { ⌜ (giver < length (now counts)) × (giver * 16 + taker < length (now cells)) × (giver < 16) × (taker < 16) × (getD (now counts) giver 0 < 65535) × (getD (now cells) (giver * 16 + taker) 0 + amount ≤ 4294967295) ⌝ }
+    ensures { λ r. ⌜ (now (counts .exit) ≡ set (now (counts .entry)) giver (getD (now (counts .entry)) giver 0 + 1)) × (now (cells .exit) ≡ set (now (cells .entry)) (giver * 16 + taker) (getD (now (cells .entry)) (giver * 16 + taker) 0 + amount)) ⌝ }
+{
+    counts[giver] = counts[giver] + 1;
+    let at = giver * 16 + taker;
+    cells[at] = cells[at] + amount;
+}
+
+// The tests of a transfer, by the sums that the record test leaves.
+fn may_add(
+    counts: &[u16],
+    cells: &[u32],
+    config: Config,
+    giver: u64,
+    taker: u64,
+    amount: u64,
+) -> Verdict
+    requires { ⌜ (length (now counts) ≡ 16) × (length (now cells) ≡ 256) ⌝ }
+    ensures { λ r. ⌜ r ≡ addAnswer config (ledgerOf (now (counts .entry)) (now (cells .entry))) giver taker amount .verdict ⌝ }
+{
+    if !config.has(giver) {
+        return Verdict::Refused(Refusal::BadHouse);
+    }
+    let mut received: [u64; 16] = [0; 16];
+    let mut given: [u64; 16] = [0; 16];
+    let Verdict::Accepted = weigh(counts, cells, config, &mut received, &mut given) else {
+        return Verdict::Refused(Refusal::BadHouse);
+    };
+    let i = giver as usize;
+    may_give(
+        config,
+        giver,
+        taker,
+        amount,
+        counts[i],
+        received[i],
+        given[i],
+    )
+}
+
+// The tests of a transfer on a ledger that fits: 11, then 12, then 10.
+fn may_give(
+    config: Config,
+    giver: u64,
+    taker: u64,
+    amount: u64,
+    count: u16,
+    received: u64,
+    given: u64,
+) -> Verdict
+    requires { ⌜ (validOf config ≡ true) × (received ≤ 68719476720) × (given + leastOf config ≤ startOf config giver + received) ⌝ }
+    ensures { λ r. ⌜ r ≡ giveVerdict config giver taker amount count (leb amount (startOf config giver + received - given - leastOf config)) ⌝ }
+{
+    if !lawful(config, giver, taker, amount) {
+        return Verdict::Refused(Refusal::BadTransfer);
+    }
+    if count == MOST_COUNT {
+        return Verdict::Refused(Refusal::Spent);
+    }
+    if !spares(config, giver, amount, received, given) {
+        return Verdict::Refused(Refusal::Thin);
+    }
+    Verdict::Accepted
+}
+
+// Whether a server that is above the floor still is once it has given `amount`, by what it received and gave.
+fn spares(config: Config, server: u64, amount: u64, received: u64, given: u64) -> bool
+    requires { ⌜ (validOf config ≡ true) × (received ≤ 68719476720) × (given + leastOf config ≤ startOf config server + received) ⌝ }
+    ensures { λ r. ⌜ r ≡ leb amount (startOf config server + received - given - leastOf config) ⌝ }
+{
+    let Number::Value(least) = config.least() else {
+        return false;
+    };
+    amount <= config.start_at(server) + received - given - least
 }
 
 // Whether the taker is another server of the cluster and something is given.
@@ -69,16 +143,4 @@ fn lawful(config: Config, giver: u64, taker: u64, amount: u64) -> bool
         return false;
     }
     0 < amount
-}
-
-// Whether a server is still above the floor once it has given `amount`, by the cells of a ledger on which every weight is above it.
-fn spares(cells: &[u32], config: Config, server: u64, amount: u64) -> bool
-    requires { ⌜ (length (now cells) ≡ 256) × (serverOf config server ≡ true) × (aboveFloor config (ledgerOf [] (now cells)) ≡ true) ⌝ }
-    ensures { λ r. ⌜ r ≡ sparesOf config (ledgerOf [] (now (cells .entry))) server amount ⌝ }
-{
-    let Number::Value(least) = config.least() else {
-        return false;
-    };
-    let b = balance_of(cells, config, server);
-    amount <= b.held - b.given - least
 }

@@ -1,8 +1,9 @@
 // Whether a ledger is one that a party may hold or send: every count and cell within the paper's ranges, and every weight above the floor.
 use super::balance::balance_of;
 use super::ledger::Ledger;
-use super::ledger::line;
 use super::ledger::wide16;
+use super::sums::faults;
+use super::sums::weigh;
 use config::Config;
 use config::MOST_WEIGHT;
 use config::Number;
@@ -11,12 +12,10 @@ use config::Verdict;
 ghost use mathlib.Core.Path.{_≡_};
 ghost use mathlib.Core.Bool.{true};
 ghost use mathlib.Core.List.{[]};
-ghost use Prim.Native.Nat.{_<_};
 ghost use lib.ListN.{length};
-ghost use Rattle.quorums.specs.Sum.{all};
 ghost use Rattle.config.specs.Cluster.{validOf, leastOf};
 ghost use Rattle.ledger.specs.Ledgers.{ledgerOf};
-ghost use Rattle.ledger.specs.Checks.{cellFits, serverFits, totalFits, rowFits, aboveFloor, boundsAnswer, floorAnswer, checkAnswer};
+ghost use Rattle.ledger.specs.Checks.{totalFits, aboveFloor, boundsAnswer, floorAnswer, checkAnswer};
 
 impl Ledger {
     // The first fault of the ledger: 1 for the cluster, 4 for a count or cell out of range, 5 for a weight not above the floor.
@@ -45,10 +44,9 @@ impl Ledger {
 pub fn check_lent<'a>(counts: &'a [u16; 16], cells: &'a [u32; 256], config: Config) -> Verdict
     ensures { λ r. ⌜ r ≡ checkAnswer config (ledgerOf (now (counts .entry)) (now (cells .entry))) ⌝ }
 {
-    match bounds(counts, cells, config) {
-        Verdict::Accepted => floor(cells, config),
-        Verdict::Refused(r) => Verdict::Refused(r),
-    }
+    let mut received: [u64; 16] = [0; 16];
+    let mut given: [u64; 16] = [0; 16];
+    weigh(counts, cells, config, &mut received, &mut given)
 }
 
 pub(crate) fn bounds<'a>(counts: &'a [u16], cells: &'a [u32], config: Config) -> Verdict
@@ -58,10 +56,9 @@ pub(crate) fn bounds<'a>(counts: &'a [u16], cells: &'a [u32], config: Config) ->
     if !config.valid() {
         return Verdict::Refused(Refusal::BadHouse);
     }
-    if !cells_fit(cells, config.n) {
-        return Verdict::Refused(Refusal::OddField);
-    }
-    if !rows_fit(counts, cells) {
+    let mut received: [u64; 16] = [0; 16];
+    let mut given: [u64; 16] = [0; 16];
+    if faults(counts, cells, config.n, &mut received, &mut given) != 0 {
         return Verdict::Refused(Refusal::OddField);
     }
     Verdict::Accepted
@@ -81,36 +78,6 @@ pub(crate) fn floor(cells: &[u32], config: Config) -> Verdict
     Verdict::Accepted
 }
 
-// Whether every cell may hold what it holds.
-fn cells_fit(cells: &[u32], n: u64) -> bool
-    requires { ⌜ length (now cells) ≡ 256 ⌝ }
-    ensures { λ r. ⌜ r ≡ all 256 (cellFits n (ledgerOf [] (now (cells .entry)))) ⌝ }
-{
-    let mut i: usize = 0;
-    while i < 16 {
-        if !server_fits(cells, n, i) {
-            return false;
-        }
-        i += 1;
-    }
-    true
-}
-
-// Whether every row's total fits its count.
-fn rows_fit(counts: &[u16], cells: &[u32]) -> bool
-    requires { ⌜ (length (now counts) ≡ 16) × (length (now cells) ≡ 256) ⌝ }
-    ensures { λ r. ⌜ r ≡ all 16 (rowFits (ledgerOf (now (counts .entry)) (now (cells .entry)))) ⌝ }
-{
-    let mut i: usize = 0;
-    while i < 16 {
-        if !total_fits(counts[i], line(cells, i * 16, 1)) {
-            return false;
-        }
-        i += 1;
-    }
-    true
-}
-
 // Whether no server of a valid cluster has less than the least weight above the floor.
 fn above_floor(cells: &[u32], config: Config, least: u64) -> bool
     requires { ⌜ (length (now cells) ≡ 256) × (validOf config ≡ true) × (least ≡ leastOf config) ⌝ }
@@ -126,24 +93,6 @@ fn above_floor(cells: &[u32], config: Config, least: u64) -> bool
         i += 1;
     }
     true
-}
-
-// Whether the cells of one server's row and column may hold what they hold: it gave itself nothing, and where there is no such server, it gave and
-// received nothing.
-fn server_fits(cells: &[u32], n: u64, i: usize) -> bool
-    requires { ⌜ (length (now cells) ≡ 256) × (i < 16) ⌝ }
-    ensures { λ r. ⌜ r ≡ serverFits n (now (cells .entry)) i ⌝ }
-{
-    if cells[i * 17] != 0 {
-        return false;
-    }
-    if (i as u64) < n {
-        return true;
-    }
-    if line(cells, i * 16, 1) != 0 {
-        return false;
-    }
-    line(cells, i, 16) == 0
 }
 
 // Whether a row's total lies from its count to 16,000 times its count.

@@ -5,8 +5,10 @@ mod check;
 mod join;
 mod ledger;
 mod map;
+mod sums;
 mod weight;
 
+pub use change::add_lent;
 pub use check::check_lent;
 pub use check::total_fits;
 pub use join::lacks_lent;

@@ -29,8 +29,9 @@ use Rattle.message.proofs.Parts.{value-within}
 use Rattle.message.proofs.Rounds.{check-told, received}
 use Rattle.message.proofs.SheetBacks.{ledger-typed}
 use Rattle.reader.specs.Weighings.{weightIn, quorumIn}
-use Rattle.reader.specs.Sums.{Sums, SheetSums, accountsIn}
-use Rattle.reader.proofs.Weights.{received-sums, given-sums, sums-weight, sums-quorum}
+use Rattle.ledger.specs.Sums.{Sums, accountsIn}
+use Rattle.reader.specs.Sums.{SheetSums}
+use Rattle.ledger.proofs.Weights.{received-sums, given-sums, sums-weight, sums-quorum}
 
 -- ---- the number of the check
 

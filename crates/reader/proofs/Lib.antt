@@ -5,9 +5,7 @@ pub mod Absent
 pub mod Rows
 pub mod Rests
 pub mod Placed
-pub mod Tallies
 pub mod Weighed
-pub mod Weights
 pub mod Scanned
 pub mod Answered
 pub mod Published

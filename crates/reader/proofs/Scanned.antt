@@ -16,8 +16,8 @@ use Rattle.message.specs.declared.state.HeadRead.{HeadRead}
 use Rattle.message.specs.declared.state.RegisterRead.{RegisterRead}
 use Rattle.message.specs.Cursors.{readNumber, require}
 use Rattle.message.specs.Scans.{headOf, registerOf, sheetOf, readNote, endOf, scanOf}
-use Rattle.reader.specs.Sums.{allAbove}
-use Rattle.reader.proofs.Weights.{sums-above}
+use Rattle.ledger.specs.Sums.{allAbove}
+use Rattle.ledger.proofs.Weights.{sums-above}
 
 module _ (c : Config) (msg : List ℕ) (h : HeadRead) (r : RegisterRead) (stands : ℕ) (received given : List ℕ)
     (head : h ≡ headOf c msg)

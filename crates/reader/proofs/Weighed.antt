@@ -16,7 +16,7 @@ use Rattle.format.specs.Bytes.{bit}
 use Rattle.message.specs.declared.state.Cursor.{Cursor}
 use Rattle.message.specs.Scans.{cellsAfter, cellRead, rowCells, rowOf, rowsAfter, cellOfRow, ledgerRead}
 use Rattle.message.proofs.Backs.{number-most}
-use Rattle.reader.proofs.Tallies.{Tallied, tally-zeros, sum-all}
+use Rattle.ledger.proofs.Tallies.{Tallied, tally-zeros, sum-all}
 
 -- ---- one row more
 
@@ -49,9 +49,6 @@ row-given c msg m from i b here stands e = e ∙ sum-same 16 _ _ (λ j l. row-ce
 pub cell-most : (c : Config) (msg : List ℕ) (m : ℕ) (from : Cursor) (i j : ℕ) → cellOfRow c msg m from i j ≤ 4294967295
 unfolding cellOfRow rowCells cellRead cellsAfter
 cell-most c msg m from i j = number-most msg _ _ _ _ _
-
-pub sum-most : (n : ℕ) (f : ℕ → ℕ) → ((k : ℕ) → f k ≤ 4294967295) → sum n f ≤ n * 4294967295
-sum-most n f h = omega (arith, sum-le n f (λ k. 4294967295) (λ k l. h k), sum-const n 4294967295)
 
 -- ---- the ledger that a reader would build
 

@@ -24,7 +24,8 @@ ghost use Rattle.ledger.specs.Tables.{table};
 ghost use Rattle.message.specs.Cursors.{require as requireOf};
 ghost use Rattle.message.specs.Scans.{scanOf};
 ghost use Rattle.message.specs.Answers.{check, checkAnswer};
-ghost use Rattle.reader.specs.Sums.{Sums, SheetSums, allAbove};
+ghost use Rattle.ledger.specs.Sums.{Sums, allAbove};
+ghost use Rattle.reader.specs.Sums.{SheetSums};
 
 // No bytes are left over, and every weight is above the floor.
 pub(crate) fn finish(

@@ -7,7 +7,7 @@ ghost use mathlib.Core.Bool.{true};
 ghost use Rattle.quorums.specs.Accounts.{weight as weightOf, quorum as quorumOf};
 ghost use Rattle.config.specs.Cluster.{validOf, serverOf};
 ghost use Rattle.ledger.specs.Maps.{named};
-ghost use Rattle.reader.specs.Sums.{accountsIn, allAbove, Sums};
+ghost use Rattle.ledger.specs.Sums.{accountsIn, allAbove, Sums};
 
 // Whether every weight is above the floor.
 pub(crate) fn above_floor(config: Config, received: &[u64], given: &[u64]) -> bool

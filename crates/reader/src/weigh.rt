@@ -18,7 +18,7 @@ ghost use Rattle.config.specs.Cluster.{validOf};
 ghost use Rattle.ledger.specs.Ledgers.{receivedOf, givenOf};
 ghost use Rattle.ledger.specs.Tables.{table};
 ghost use Rattle.message.specs.Scans.{cellsAfter, cellRead, cellMapOf, rowCells, rowOf, rowsAfter, ledgerRead, sheetOf};
-ghost use Rattle.reader.specs.Sums.{Sums};
+ghost use Rattle.ledger.specs.Sums.{Sums};
 
 // What the cells of a row come to, and where they end.
 pub(crate) struct CellsRead {

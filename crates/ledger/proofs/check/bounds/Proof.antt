@@ -1,10 +1,33 @@
--- `bounds` meets its contract, test by test.
-use mathlib.Core.Path.{sym, _∙_}
+-- `bounds` meets its contract: nothing is wrong exactly where every count and cell is in range.
+use mathlib.Core.Path.{_≡_, sym, ap, _∙_}
+use mathlib.Core.Bool.{true}
 use borrow.Author.Needs.{needs}
-use borrow.Author.Tests.{not-true, not-false}
+use borrow.Author.Tests.{eq-eqb, ne-eqb, not-true, not-false}
+use lib.Dec.{eqb}
+use Rattle.config.specs.Cluster.{validOf}
+use Rattle.config.proofs.Clusters.{valid-bounds}
+use Rattle.ledger.specs.Ledgers.{ledgerOf}
 use Rattle.ledger.specs.Checks.{bounded, boundsAnswer}
+use Rattle.ledger.proofs.Faults.{faults-bounded}
 use Rattle.ledger.proofs.check.bounds.Statement.{statement}
 use Rattle.ledger.proofs.check.bounds.Tie as tie
+
+abbrev start : tie.Else1 → tie.Start
+start c = c .before .before .before .before
+
+abbrev passed : tie.After-faults → tie.Else1
+passed c = c .before .before .before
+
+valid : (c : tie.Else1) → validOf (start c .args .config) ≡ true
+valid c = sym (c .before .valid .ensures) ∙ not-false _ (c .if1 .left)
+
+range : (c : tie.After-faults) →
+    let a = start (passed c) .args in
+    bounded (a .config) (ledgerOf (a .counts .now) (a .cells .now)) ≡ eqb (c .faults .result) 0
+range c =
+    let a = start (passed c) .args in
+    sym (faults-bounded (a .config) (ledgerOf (a .counts .now) (a .cells .now)) (valid-bounds _ (valid (passed c)) .most))
+    ∙ ap (λ k. eqb k 0) (sym (c .faults .ensures .0))
 
 valid-requires : tie.Need-valid-requires
 valid-requires c κs = search needs
@@ -13,23 +36,28 @@ returns : tie.Need-returns
 unfolding boundsAnswer
 returns c = simp (sym (c .before .valid .ensures) ∙ not-true _ (c .if1 .taken))
 
-cells-fit-requires : tie.Need-cells-fit-requires
-cells-fit-requires c κs = search needs
+slice-aggregate-faults : tie.Need-slice-aggregate-faults
+slice-aggregate-faults c = search needs
+
+slice-aggregate-faults-2 : tie.Need-slice-aggregate-faults-2
+slice-aggregate-faults-2 c = search needs
+
+faults-requires : tie.Need-faults-requires
+faults-requires c κs =
+    let e = c .before .before in
+    (start e .pre .0, start e .pre .1, valid-bounds _ (valid e) .most, search needs, search needs)
 
 returns-2 : tie.Need-returns-2
-unfolding boundsAnswer bounded
-returns-2 c = simp (sym (c .before .before .before .valid .ensures) ∙ not-false _ (c .before .before .if1 .left), sym (c .before .cells-fit .ensures) ∙ not-true _ (c .if2 .taken))
-
-rows-fit-requires : tie.Need-rows-fit-requires
-rows-fit-requires c κs = search needs
+unfolding boundsAnswer
+returns-2 c =
+    let f = c .before .before .before in
+    simp (valid (passed f), range f ∙ ne-eqb _ 0 (c .if2 .taken))
 
 returns-3 : tie.Need-returns-3
-unfolding boundsAnswer bounded
-returns-3 c = simp (sym (c .before .before .before .before .before .valid .ensures) ∙ not-false _ (c .before .before .before .before .if1 .left), sym (c .before .before .before .cells-fit .ensures) ∙ not-false _ (c .before .before .if2 .left), sym (c .before .rows-fit .ensures) ∙ not-true _ (c .if3 .taken))
-
-returns-4 : tie.Need-returns-4
-unfolding boundsAnswer bounded
-returns-4 c = simp (sym (c .before .before .before .before .before .valid .ensures) ∙ not-false _ (c .before .before .before .before .if1 .left), sym (c .before .before .before .cells-fit .ensures) ∙ not-false _ (c .before .before .if2 .left), sym (c .before .rows-fit .ensures) ∙ not-false _ (c .if3 .left))
+unfolding boundsAnswer
+returns-3 c =
+    let f = c .before .before .before in
+    simp (valid (passed f), range f ∙ eq-eqb _ 0 (c .if2 .left))
 
 pub bounds-spec : {M : Type 1} → statement M
 bounds-spec =
@@ -37,8 +65,8 @@ bounds-spec =
     (tie.spec
     valid-requires
     returns
-    cells-fit-requires
+    slice-aggregate-faults
+    slice-aggregate-faults-2
+    faults-requires
     returns-2
-    rows-fit-requires
-    returns-3
-    returns-4)
+    returns-3)

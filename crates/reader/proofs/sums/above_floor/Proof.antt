@@ -11,8 +11,8 @@ use Rattle.quorums.specs.Sum.{all}
 use Rattle.quorums.proofs.Sums.{all-none, all-next, all-fails}
 use Rattle.config.specs.Answers.{leastAnswer}
 use Rattle.config.specs.declared.answer.Number.{Number}
-use Rattle.config.proofs.Clusters.{valid-bounds, start-small}
-use Rattle.reader.proofs.Weights.{least-stands, least-bound, aboveAt, above-at}
+use Rattle.config.proofs.Clusters.{valid-bounds, start-small, least-told}
+use Rattle.ledger.proofs.Weights.{least-stands, least-bound, aboveAt, above-at}
 use Rattle.reader.proofs.sums.above_floor.Statement.{statement}
 use Rattle.reader.proofs.sums.above_floor.Tie as tie
 
@@ -66,7 +66,7 @@ above : (c : tie.After-start-at Inv-loop μ-loop) →
     aboveAt (a .config) (a .received .now) (a .given .now) i ≡ leb (getD (a .given .now) i 0 + told (c .before) .before .least2 .given .0 .0) (c .start-at .result + getD (a .received .now) i 0)
 above c =
     let s = entry (c .before) in
-    above-at (s .args .config) (s .args .received .now) (s .args .given .now) _ _ _ (s .pre .0) (c .start-at .ensures) (least-is (told (c .before)))
+    above-at (s .args .config) (s .args .received .now) (s .args .given .now) _ _ _ (s .pre .0) (c .start-at .ensures) (least-told _ _ (least-is (told (c .before))) .1)
 
 mul-if1 : tie.Need-mul-if1 Inv-loop μ-loop
 mul-if1 c = omega (arith, small (c .before))

@@ -13,8 +13,8 @@ use Rattle.config.specs.Answers.{totalAnswer}
 use Rattle.config.specs.declared.answer.Number.{Number}
 use Rattle.config.proofs.Clusters.{valid-bounds, start-small}
 use Rattle.ledger.specs.Maps.{named}
-use Rattle.reader.specs.Sums.{accountsIn}
-use Rattle.reader.proofs.Weights.{total-stands, total-bound, named-counts, unnamed-counts, counts-most, quorum-at}
+use Rattle.ledger.specs.Sums.{accountsIn}
+use Rattle.ledger.proofs.Weights.{total-stands, total-bound, named-counts, unnamed-counts, counts-most, quorum-at}
 use Rattle.reader.proofs.sums.is_quorum.Statement.{statement}
 use Rattle.reader.proofs.sums.is_quorum.Tie as tie
 

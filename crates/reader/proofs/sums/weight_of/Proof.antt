@@ -7,7 +7,7 @@ use lib.ListN.{getD}
 use mir.Facts.{toZ-ofZ}
 use Rattle.config.proofs.Clusters.{server-small, start-small}
 use Rattle.ledger.proofs.Answers.{gap-is, gap-fits}
-use Rattle.reader.proofs.Weights.{weight-at}
+use Rattle.ledger.proofs.Weights.{weight-at}
 use Rattle.reader.proofs.sums.weight_of.Statement.{statement}
 use Rattle.reader.proofs.sums.weight_of.Tie as tie
 

@@ -9,7 +9,7 @@ use lib.ListN.{length}
 use Rattle.message.specs.Cursors.{numberAt}
 use Rattle.message.specs.Scans.{cellsAfter, cellRead}
 use Rattle.reader.specs.Steps.{place}
-use Rattle.reader.proofs.Tallies.{Tallied, tally-none, tally-next, tally-same, zeros-at, tally-zeros}
+use Rattle.ledger.proofs.Tallies.{Tallied, tally-none, tally-next, tally-same, zeros-at, tally-zeros}
 use Rattle.reader.proofs.Rests.{rest-bit, rest-next, rest-inside, cells-end, cell-beyond}
 use Rattle.reader.proofs.Placed.{cell-passed, cell-skipped}
 use Rattle.reader.proofs.take.take_cells.Statement.{statement}

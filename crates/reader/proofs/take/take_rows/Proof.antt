@@ -11,7 +11,7 @@ use Rattle.config.proofs.Clusters.{valid-bounds}
 use Rattle.ledger.proofs.Tables.{table-same}
 use Rattle.message.specs.Scans.{rowsAfter, countRead, cellOfRow}
 use Rattle.reader.specs.Steps.{place}
-use Rattle.reader.proofs.Tallies.{Tallied, tally-none, tally-next, tally-same, zeros-at, tally-zeros}
+use Rattle.ledger.proofs.Tallies.{Tallied, tally-none, tally-next, tally-same, zeros-at, tally-zeros}
 use Rattle.reader.proofs.Rows.{Filled, rows-none, row-blank, row-next, row-same, rows-all}
 use Rattle.reader.proofs.Steps.{ledger-is}
 use Rattle.reader.proofs.Rests.{rest-done, rows-end, count-unset, row-cells-unset, row-beyond}

@@ -13,7 +13,7 @@ use Rattle.message.specs.Scans.{cellsAfter, cellRead}
 use Rattle.reader.specs.Steps.{settled}
 use Rattle.reader.proofs.Steps.{cells-next, cell-next}
 use Rattle.reader.proofs.Rests.{rest-bit, rest-next, rest-inside, cells-settle, cell-beyond, cells-fault, cell-after-fault}
-use Rattle.reader.proofs.Tallies.{Tallied, tally-none, tally-next, tally-all, sum-all}
+use Rattle.ledger.proofs.Tallies.{Tallied, tally-none, tally-next, tally-all, sum-all}
 use Rattle.reader.proofs.weigh.weigh_cells.Statement.{statement}
 use Rattle.reader.proofs.weigh.weigh_cells.Tie as tie
 

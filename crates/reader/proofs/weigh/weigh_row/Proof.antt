@@ -9,7 +9,7 @@ use Rattle.ledger.proofs.Tables.{table-same}
 use Rattle.message.specs.Scans.{RowRead, readCount, rowOf}
 use Rattle.reader.proofs.Steps.{row-cell}
 use Rattle.reader.proofs.Absent.{row-absent, row-cell-absent}
-use Rattle.reader.proofs.Tallies.{tally-none, tally-all}
+use Rattle.ledger.proofs.Tallies.{tally-none, tally-all}
 use Rattle.reader.proofs.weigh.weigh_row.Statement.{statement}
 use Rattle.reader.proofs.weigh.weigh_row.Tie as tie
 

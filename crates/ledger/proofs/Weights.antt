@@ -1,10 +1,10 @@
 -- Weights and quorums from what each server received and gave: as the program computes them, and as they are on a ledger.
 use Prim.Native.Nat.{ℕ, _+_, _*_, _/_, _%_, _^_, _≤_, _<_}
 use native.Mathlib.Omega.{arith}
-use mathlib.Core.Path.{_≡_, sym, ap, ap₂, _∙_, subst}
+use mathlib.Core.Path.{_≡_, refl, sym, ap, ap₂, _∙_, subst}
 use mathlib.Core.Bool.{Bool, true, false, cond}
 use mathlib.Core.List.{List}
-use borrow.Author.Tests.{eq-eqb, ne-eqb}
+use borrow.Author.Tests.{eq-eqb, ne-eqb, lt-ltb}
 use lib.Dec.{leb, ltb}
 use lib.ListN.{getD}
 use Rattle.quorums.specs.Sum.{sumIn}
@@ -12,23 +12,24 @@ use Rattle.quorums.specs.Difference.{difference}
 use Rattle.quorums.specs.Accounts.{held, weight, total, quorum}
 use Rattle.quorums.proofs.Sums.{all-same, sumIn-same}
 use Rattle.quorums.proofs.Weights.{quorum-is}
-use Rattle.config.specs.Cluster.{validOf, serverOf, startOf, totalOf, aboveOf}
+use Rattle.config.specs.Cluster.{validOf, serverOf, startOf, totalOf, aboveOf, leastOf}
 use Rattle.config.specs.Answers.{totalAnswer, leastAnswer}
 use Rattle.config.specs.declared.cluster.Config.{Config}
 use Rattle.config.specs.declared.answer.Number.{Number}
 use Rattle.config.specs.declared.answer.Refusal.{Refusal}
 use Rattle.config.proofs.Clusters.{valid-server, server-small, valid-bounds, above-least, least-small, total-small, least-told, least-refused, total-told, total-refused}
 use Rattle.ledger.specs.declared.ledger.Ledger.{Ledger}
 use Rattle.ledger.specs.Ledgers.{cellOf, receivedOf, givenOf, accountsOf, Typed}
 use Rattle.format.specs.Bytes.{bit}
 use Rattle.ledger.specs.Maps.{named}
 use Rattle.ledger.specs.Weights.{weightOf, quorumOf}
-use Rattle.ledger.specs.Checks.{aboveFloor}
+use Rattle.ledger.specs.Checks.{bounded, aboveFloor}
 use Rattle.ledger.specs.Tables.{table}
 use Rattle.ledger.proofs.Tables.{table-length, table-at}
-use Rattle.reader.specs.Sums.{accountsIn, allAbove, Sums}
-use Rattle.reader.proofs.Tallies.{bounded}
-use Rattle.reader.proofs.Weighed.{sum-most}
+use Rattle.ledger.specs.Sums.{accountsIn, allAbove, Sums, Weighs, receivedFrom, givenBelow}
+use Rattle.ledger.proofs.Tallies.{sum-most}
+use Rattle.ledger.proofs.Tallies as tallies
+use Rattle.ledger.proofs.Faults.{from-all}
 
 -- ---- answers
 
@@ -55,12 +56,11 @@ abbrev pub aboveAt : Config → List ℕ → List ℕ → ℕ → Bool
 aboveAt c r g i = aboveOf c (weight (accountsIn c r g) i)
 
 -- the test of one server
-pub above-at : (c : Config) (r g : List ℕ) (i start least : ℕ) → validOf c ≡ true → start ≡ startOf c i → leastAnswer c ≡ Number.Value least
+pub above-at : (c : Config) (r g : List ℕ) (i start least : ℕ) → validOf c ≡ true → start ≡ startOf c i → least ≡ leastOf c
     → aboveAt c r g i ≡ leb (getD g i 0 + least) (start + getD r i 0)
 unfolding weight
 above-at c r g i start least v s e =
-    above-least c (startOf c i + getD r i 0) (getD g i 0) v
-    ∙ ap₂ (λ x y. leb (getD g i 0 + x) (y + getD r i 0)) (sym (least-told c least e .1)) (sym s)
+    above-least c (startOf c i + getD r i 0) (getD g i 0) v ∙ ap₂ (λ x y. leb (getD g i 0 + x) (y + getD r i 0)) (sym e) (sym s)
 
 -- the weight of one server
 pub weight-at : (c : Config) (r g : List ℕ) (i start : ℕ) → start ≡ startOf c i → difference (start + getD r i 0) (getD g i 0) ≡ weight (accountsIn c r g) i
@@ -116,7 +116,7 @@ sums-quorum c l m v =
 
 -- The sums of a ledger that a call can have are small.
 pub sums-small : (f : ℕ → ℕ) → ((i : ℕ) → f i ≤ 68719476720) → Sums 68719476720 (table 16 f)
-sums-small f h = record { size = table-length 16 f; small = bounded (table 16 f) 68719476720 (table-length 16 f) (λ k l. subst (λ x. x ≤ 68719476720) (sym (table-at 16 f k l)) (h k)) }
+sums-small f h = record { size = table-length 16 f; small = tallies.bounded (table 16 f) 68719476720 (table-length 16 f) (λ k l. subst (λ x. x ≤ 68719476720) (sym (table-at 16 f k l)) (h k)) }
 
 pub received-sums : (l : Ledger) → Typed l → Sums 68719476720 (table 16 (receivedOf l))
 unfolding receivedOf
@@ -125,3 +125,23 @@ received-sums l t = sums-small (receivedOf l) (λ i. sum-most 16 (λ j. cellOf l
 pub given-sums : (l : Ledger) → Typed l → Sums 68719476720 (table 16 (givenOf l))
 unfolding givenOf
 given-sums l t = sums-small (givenOf l) (λ i. sum-most 16 (λ j. cellOf l i j) (λ j. t .cell-fits (i * 16 + j)))
+
+-- ---- by the rows below n
+
+-- The sums of the rows below n are those of all rows, on a ledger within bounds.
+pub weighs : (c : Config) (l : Ledger) (r g : List ℕ) → validOf c ≡ true → bounded c l ≡ true → r ≡ table 16 (receivedFrom (c .n) l)
+    → g ≡ table 16 (givenBelow (c .n) l) → Sums 68719476720 r → Sums 68719476720 g → Weighs c l r g
+unfolding givenBelow
+weighs c l r g v b er eg sr sg =
+    let most = valid-bounds c v .most in
+    record {
+      takes = λ i h. ap (λ xs. getD xs i 0) er ∙ table-at 16 _ i (omega arith) ∙ from-all c l most b i (omega arith);
+      gives = λ i h. ap (λ xs. getD xs i 0) eg ∙ table-at 16 _ i (omega arith) ∙ rw (lt-ltb i (c .n) h) refl;
+      takes-small = sr;
+      gives-small = sg;
+    }
+
+-- so every weight is above the floor exactly when every one on the ledger is
+pub weighs-above : (c : Config) (l : Ledger) (r g : List ℕ) → Weighs c l r g → allAbove c r g ≡ aboveFloor c l
+unfolding aboveFloor weightOf weight
+weighs-above c l r g w = all-same (c .n) _ _ (λ i h. ap₂ (λ x y. aboveOf c (difference (startOf c i + x) y)) (w .takes i h) (w .gives i h))

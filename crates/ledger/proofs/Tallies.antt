@@ -1,5 +1,5 @@
 -- A list of 16 sums to which a number is added at each index in turn.
-use Prim.Native.Nat.{ℕ, _+_, _-_, _≤_, _<_}
+use Prim.Native.Nat.{ℕ, _+_, _-_, _*_, _≤_, _<_}
 use native.Mathlib.Numerals.{add-one}
 use native.Mathlib.Omega.{arith}
 use mathlib.Core.Path.{_≡_, refl, sym, ap, _∙_}
@@ -9,9 +9,9 @@ use lib.ListN.{length, getD, set, replicate, length-set, getD-replicate, List·g
 use lib.Seq.{getD-set-same, getD-set-other}
 use Rattle.quorums.specs.Sum.{sum}
 use Rattle.quorums.proofs.Tests.{le-or-lt}
-use Rattle.quorums.proofs.Sums.{below-suc, sum-extend}
+use Rattle.quorums.proofs.Sums.{below-suc, sum-extend, sum-le, sum-const}
 use Rattle.ledger.specs.Tables.{table}
 use Rattle.ledger.proofs.Tables.{is-table, table-same}
 
 -- ys is xs with f k added at each k below j
 pub record Tallied (f : ℕ → ℕ) (xs ys : List ℕ) (j : ℕ) : Type 0 where
@@ -69,3 +69,7 @@ bounded l most e h k = ⊎-elim (λ (g : 16 ≤ k). rw (List·getD-eq-default l 
   where
     beyond : 16 ≤ k → length l ≤ k
     beyond g = omega (arith, e)
+
+-- n cells come to at most n times the largest
+pub sum-most : (n : ℕ) (f : ℕ → ℕ) → ((k : ℕ) → f k ≤ 4294967295) → sum n f ≤ n * 4294967295
+sum-most n f h = omega (arith, sum-le n f (λ k. 4294967295) (λ k l. h k), sum-const n 4294967295)

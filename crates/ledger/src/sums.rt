@@ -1,0 +1,142 @@
+// The record test in one pass over the rows of a ledger, and the sums that it leaves for what follows in the same call: what each server received and gave.
+use super::ledger::line;
+use super::ledger::wide;
+use super::ledger::wide16;
+use config::Config;
+use config::MOST_WEIGHT;
+use config::Number;
+use config::Refusal;
+use config::Verdict;
+ghost use mathlib.Core.Path.{_≡_};
+ghost use mathlib.Core.Bool.{true};
+ghost use Prim.Native.Nat.{ℕ, _+_, _*_, _≤_, _<_};
+ghost use lib.ListN.{length, getD, replicate};
+ghost use Rattle.quorums.specs.Sum.{sum};
+ghost use Rattle.config.specs.Cluster.{validOf, leastOf};
+ghost use Rattle.config.specs.declared.answer.Verdict.{Verdict as VerdictOf};
+ghost use Rattle.ledger.specs.Ledgers.{ledgerOf};
+ghost use Rattle.ledger.specs.Checks.{checkAnswer};
+ghost use Rattle.ledger.specs.Tables.{table};
+ghost use Rattle.ledger.specs.Sums.{Sums, Weighs, allAbove, under as underOf, receivedFrom, givenBelow, rowFaults, beyondFrom, faultsOf};
+
+// The first fault of a ledger: 1 for the cluster, 4 for a count or cell out of range, 5 for a weight not above the floor. Where there is none, two lists
+// of zeros have what each server received and gave.
+pub(crate) fn weigh(
+    counts: &[u16],
+    cells: &[u32],
+    config: Config,
+    received: &mut [u64],
+    given: &mut [u64],
+) -> Verdict
+    requires { ⌜ (length (now counts) ≡ 16) × (length (now cells) ≡ 256) × (now received ≡ replicate 16 0) × (now given ≡ replicate 16 0) ⌝ }
+    ensures { λ r. ⌜ (r ≡ checkAnswer config (ledgerOf (now (counts .entry)) (now (cells .entry)))) × (r ≡ VerdictOf.Accepted → Weighs config (ledgerOf (now (counts .entry)) (now (cells .entry))) (now (received .exit)) (now (given .exit))) ⌝ }
+{
+    let Number::Value(least) = config.least() else {
+        return Verdict::Refused(Refusal::BadHouse);
+    };
+    if faults(counts, cells, config.n, received, given) != 0 {
+        return Verdict::Refused(Refusal::OddField);
+    }
+    if !above(config, least, received, given) {
+        return Verdict::Refused(Refusal::Light);
+    }
+    Verdict::Accepted
+}
+
+// How much is wrong with the counts and cells of a ledger of n servers, with what each of them received and gave, into two lists of zeros.
+pub(crate) fn faults(
+    counts: &[u16],
+    cells: &[u32],
+    n: u64,
+    received: &mut [u64],
+    given: &mut [u64],
+) -> u64
+    requires { ⌜ (length (now counts) ≡ 16) × (length (now cells) ≡ 256) × (n ≤ 16) × (now received ≡ replicate 16 0) × (now given ≡ replicate 16 0) ⌝ }
+    ensures { λ r. ⌜ (r ≡ faultsOf n (ledgerOf (now (counts .entry)) (now (cells .entry)))) × (now (received .exit) ≡ table 16 (receivedFrom n (ledgerOf (now (counts .entry)) (now (cells .entry))))) × (now (given .exit) ≡ table 16 (givenBelow n (ledgerOf (now (counts .entry)) (now (cells .entry))))) × Sums 68719476720 (now (received .exit)) × Sums 68719476720 (now (given .exit)) ⌝ }
+{
+    let below = tally(counts, cells, n, received, given);
+    below + left_over(counts, cells, n, received)
+}
+
+// The faults of the rows below n, which have a server each, and their sums. The loop has no way out but its end.
+fn tally(counts: &[u16], cells: &[u32], n: u64, received: &mut [u64], given: &mut [u64]) -> u64
+    requires { ⌜ (length (now counts) ≡ 16) × (length (now cells) ≡ 256) × (n ≤ 16) × (now received ≡ replicate 16 0) × (now given ≡ replicate 16 0) ⌝ }
+    ensures { λ r. ⌜ (r ≡ sum n (rowFaults (ledgerOf (now (counts .entry)) (now (cells .entry))))) × (r ≤ 68719476752) × (now (received .exit) ≡ table 16 (receivedFrom n (ledgerOf (now (counts .entry)) (now (cells .entry))))) × (now (given .exit) ≡ table 16 (givenBelow n (ledgerOf (now (counts .entry)) (now (cells .entry))))) × Sums 68719476720 (now (received .exit)) × Sums 68719476720 (now (given .exit)) ⌝ }
+{
+    let end = n as usize;
+    let mut faults: u64 = 0;
+    let mut i: usize = 0;
+    while i < end {
+        let a = i * 16;
+        let e = a + 16;
+        let total = row_sums(&cells[a..e], received);
+        faults += row_faults(cells[i * 17], counts[i], total);
+        given[i] = total;
+        i += 1;
+    }
+    faults
+}
+
+// What there is from n on: rows, columns and counts.
+fn left_over(counts: &[u16], cells: &[u32], n: u64, received: &[u64]) -> u64
+    requires { ⌜ (length (now counts) ≡ 16) × (length (now cells) ≡ 256) × (n ≤ 16) × (now received ≡ table 16 (receivedFrom n (ledgerOf (now counts) (now cells)))) × Sums 68719476720 (now received) ⌝ }
+    ensures { λ r. ⌜ (r ≡ sum 16 (beyondFrom n (ledgerOf (now (counts .entry)) (now (cells .entry))))) × (r ≤ 2199024304160) ⌝ }
+{
+    let mut rest: u64 = 0;
+    let mut i = n as usize;
+    while i < 16 {
+        rest += line(cells, i * 16, 1) + received[i] + wide16(counts[i]);
+        i += 1;
+    }
+    rest
+}
+
+// The total of a row, with each cell added to what its taker received.
+fn row_sums(row: &[u32], received: &mut [u64]) -> u64
+    requires { ⌜ (length (now row) ≡ 16) × Sums 18446744069414584320 (now received) ⌝ }
+    ensures { λ r. ⌜ (r ≡ sum 16 (λ j. getD (now (row .entry)) j 0)) × (r ≤ 68719476720) × (now (received .exit) ≡ table 16 (λ j. getD (now (received .entry)) j 0 + getD (now (row .entry)) j 0)) ⌝ }
+{
+    let mut total: u64 = 0;
+    let mut j: usize = 0;
+    while j < 16 {
+        let x = wide(row[j]);
+        received[j] = received[j] + x;
+        total += x;
+        j += 1;
+    }
+    total
+}
+
+// What is wrong with a row: what its giver gave itself, and a total that is below its count or above 16,000 times that.
+fn row_faults(own: u32, count: u16, total: u64) -> u64
+    ensures { λ r. ⌜ (r ≡ own + underOf total count + underOf (16000 * count) total) × (r ≤ 4294967297) ⌝ }
+{
+    let c = wide16(count);
+    wide(own) + under(total, c) + under(MOST_WEIGHT * c, total)
+}
+
+// 1 where a is below b, else 0.
+fn under(a: u64, b: u64) -> u64
+    ensures { λ r. ⌜ (r ≡ underOf a b) × (r ≤ 1) ⌝ }
+{
+    if a < b {
+        return 1;
+    }
+    0
+}
+
+// Whether every weight is above the floor, where `least` is the least that is.
+fn above(config: Config, least: u64, received: &[u64], given: &[u64]) -> bool
+    requires { ⌜ (validOf config ≡ true) × (least ≡ leastOf config) × Sums 68719476720 (now received) × Sums 68719476720 (now given) ⌝ }
+    ensures { λ r. ⌜ r ≡ allAbove config (now (received .entry)) (now (given .entry)) ⌝ }
+{
+    let n = config.n as usize;
+    let mut i: usize = 0;
+    while i < n {
+        if config.start_at(i as u64) + received[i] < given[i] + least {
+            return false;
+        }
+        i += 1;
+    }
+    true
+}
