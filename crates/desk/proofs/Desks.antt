@@ -2,7 +2,7 @@
 use Prim.Native.Nat.{ℕ, _≤_, _<_, _^_}
 use native.Mathlib.Omega.{arith}
 use mathlib.Core.Path.{_≡_, refl, sym}
-use mathlib.Core.Bool.{Bool, true, false, cond}
+use mathlib.Core.Bool.{Bool, true, false, cond, false≢true}
 use borrow.Author.Tests.{leb-true}
 use lib.Dec.{leb}
 use Rattle.quorums.proofs.Tests.{both}
@@ -16,7 +16,7 @@ use Rattle.config.specs.declared.cluster.Config.{Config}
 use Rattle.desk.specs.declared.record.Desk.{Desk}
 use Rattle.desk.specs.declared.record.DeskAnswer.{DeskAnswer}
 use Rattle.desk.specs.Operations.{running, fits as fitsOperation}
-use Rattle.desk.specs.Desks.{numberLawful, opens, fits, accepted, refused, freshDesk, blankDesk, openOf, Typed}
+use Rattle.desk.specs.Desks.{numberLawful, opens, fits, sound, accepted, refused, freshDesk, blankDesk, openOf, Typed}
 use Rattle.desk.proofs.Operations.{operation-told, running-later, none-fits, none-typed}
 
 -- ---- a desk that passes the record test
@@ -36,6 +36,22 @@ fits-told x e =
 pub told-fits : (x : Desk) → Fits x → fits x ≡ true
 unfolding fits
 told-fits x t = simp (t .number-in, t .replica-fits, t .operation-fits)
+
+-- what is not about the replica may be tested before it: a replica fits no cluster that is none
+pub sound-first : (x : Desk) → fits x ≡ cond (sound (x .config) (x .number) (x .round) (x .operation)) (fitsReplica (x .config) (x .replica)) false
+unfolding fits sound
+sound-first x =
+    by-tests (numberLawful (x .number)) (validOf (x .config)) (fitsReplica (x .config) (x .replica))
+    (fitsOperation (x .config) (x .round) (x .operation)) (λ e. replica-told (x .config) (x .replica) e .valid)
+  where
+    by-tests : (n v r o : Bool) → (r ≡ true → v ≡ true) → cond n (cond r o false) false ≡ cond (cond n (cond v o false) false) r false
+    by-tests true true true true h = refl
+    by-tests true true true false h = refl
+    by-tests true true false true h = refl
+    by-tests true true false false h = refl
+    by-tests true false true o h = absurd (false≢true (h refl))
+    by-tests true false false o h = refl
+    by-tests false v r o h = refl
 
 -- its cluster is one, and its number is a desk's
 

@@ -8,6 +8,9 @@ mod operation;
 mod record;
 mod result;
 
+pub use begin::Turned;
+pub use begin::begin_in;
+pub use begin::drop_in;
 pub use lent::hear_lent;
 pub use operation::Operation;
 pub use record::Desk;
@@ -15,3 +18,4 @@ pub use record::DeskAnswer;
 pub use record::Heard;
 pub use record::Hearing;
 pub use result::Told;
+pub use result::result_in;
