@@ -13,6 +13,8 @@ pub use begin::begin_in;
 pub use begin::drop_in;
 pub use lent::hear_lent;
 pub use operation::Operation;
+pub use operation::READ;
+pub use operation::WRITE;
 pub use record::Desk;
 pub use record::DeskAnswer;
 pub use record::Heard;
