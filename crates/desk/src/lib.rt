@@ -8,6 +8,7 @@ mod operation;
 mod record;
 mod result;
 
+pub use ask::ask_in;
 pub use begin::Turned;
 pub use begin::begin_in;
 pub use begin::drop_in;
