@@ -2,7 +2,7 @@
 -- operation runs, and after an accepted drop there is none.
 use Prim.Native.Nat.{ℕ, suc, _≤_, _<_}
 use native.Mathlib.Omega.{arith}
-use mathlib.Core.Path.{_≡_, refl, sym, _∙_}
+use mathlib.Core.Path.{_≡_, refl, sym, ap, ap₂, _∙_}
 use mathlib.Core.Bool.{Bool, true, false, cond}
 use mathlib.Core.List.{List}
 use borrow.Author.Tests.{eqb-true, leb-true, ltb-true, lt-leb, le-leb, eq-eqb}
@@ -17,11 +17,12 @@ use Rattle.replica.specs.declared.value.Value.{Value}
 use Rattle.replica.specs.Values.{valueFits, valueOf, Typed as TypedValue}
 use Rattle.replica.proofs.Values.{value-fits, value-typed}
 use Rattle.replica.proofs.Registers.{start-typed, start-fits}
+use Rattle.desk.specs.declared.begin.Turned.{Turned}
 use Rattle.desk.specs.declared.record.Desk.{Desk}
 use Rattle.desk.specs.declared.record.DeskAnswer.{DeskAnswer}
 use Rattle.desk.specs.Operations.{running, reading, writing, noOperation, begunOperation, phaseLawful}
-use Rattle.desk.specs.Desks.{mostRound, fits, accepted, refused, Typed}
-use Rattle.desk.specs.Begins.{begun, startOf, beginOf, dropped, dropOf}
+use Rattle.desk.specs.Desks.{mostRound, fits, accepted, refused, turned, Typed}
+use Rattle.desk.specs.Begins.{begun, startOf, beginOf, dropped, dropOf, turnedOf, unturned}
 use Rattle.desk.proofs.Operations.{told-operation, mode-later, kind-fits, none-answered, none-fits, none-typed}
 use Rattle.desk.proofs.Desks.{fits-told, told-fits, fits-valid}
 
@@ -80,6 +81,43 @@ pub drop-idle : (x : Desk) → dropOf x .verdict ≡ Verdict.Accepted → (dropO
 drop-idle x =
     drop-cases (λ (a : DeskAnswer). a .verdict ≡ Verdict.Accepted → (a .desk .operation ≡ noOperation) × (x .operation .mode ≡ running)) x
     (λ n e. accepted-not-refused n (sym e)) (λ m e. (refl, m))
+
+-- ---- the parts that change
+
+-- an operation that may begin does so before the last round
+pub begin-turned : (x : Desk) (kind : ℕ) (v : List ℕ) (note : ℕ) → beginOf x kind v note .verdict ≡ Verdict.Accepted
+    → (turnedOf (beginOf x kind v note) ≡ turnedOf (accepted (begun x kind (valueOf v) note))) × (x .round < mostRound)
+begin-turned x kind v note =
+    begin-cases
+    (λ (a : DeskAnswer).
+    a .verdict ≡ Verdict.Accepted → (turnedOf a ≡ turnedOf (accepted (begun x kind (valueOf v) note))) × (x .round < mostRound)) x kind v note
+    (λ n e. accepted-not-refused n (sym e)) (λ l r e. (refl, r))
+
+pub begin-unturned : (x : Desk) (kind : ℕ) (v : List ℕ) (note : ℕ) (k : Refusal) → beginOf x kind v note .verdict ≡ Verdict.Refused k
+    → turnedOf (beginOf x kind v note) ≡ unturned k (x .round) (x .operation)
+begin-unturned x kind v note k =
+    begin-cases (λ (a : DeskAnswer). a .verdict ≡ Verdict.Refused k → turnedOf a ≡ unturned k (x .round) (x .operation)) x kind v note
+    (λ n e. ap {B = Turned} (λ w. record { verdict = w; round = x .round; operation = x .operation }) e) (λ l r e. accepted-not-refused k e)
+
+-- Nothing else changes: the record with the round and the operation that a call turned is the record that it hands back.
+
+abbrev after : Desk → Turned → DeskAnswer
+after x t = record { verdict = t .verdict; desk = turned x (t .round) (t .operation) }
+
+put-back : (x : Desk) (a : DeskAnswer) (t : Turned) (y : Desk) → after x (turnedOf a) ≡ a
+    → t ≡ turnedOf a → y ≡ turned x (t .round) (t .operation)
+    → record { verdict = t .verdict; desk = y } ≡ a
+put-back x a t y same p q = ap {B = DeskAnswer} (λ d. record { verdict = t .verdict; desk = d }) q ∙ ap (after x) p ∙ same
+
+pub begin-back : (x : Desk) (kind : ℕ) (v : List ℕ) (note : ℕ) (t : Turned) (y : Desk) → t ≡ turnedOf (beginOf x kind v note)
+    → y ≡ turned x (t .round) (t .operation) → record { verdict = t .verdict; desk = y } ≡ beginOf x kind v note
+begin-back x kind v note t y =
+    put-back x (beginOf x kind v note) t y
+    (begin-cases (λ (a : DeskAnswer). after x (turnedOf a) ≡ a) x kind v note (λ k. refl) (λ l r. refl))
+
+pub drop-back : (x : Desk) (t : Turned) (y : Desk) → t ≡ turnedOf (dropOf x)
+    → y ≡ turned x (t .round) (t .operation) → record { verdict = t .verdict; desk = y } ≡ dropOf x
+drop-back x t y = put-back x (dropOf x) t y (drop-cases (λ (a : DeskAnswer). after x (turnedOf a) ≡ a) x (λ k. refl) (λ m. refl))
 
 -- ---- a desk stays one
 

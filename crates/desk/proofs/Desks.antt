@@ -1,8 +1,8 @@
 -- Desks: what the record test says, and that a desk passes it when it is opened.
 use Prim.Native.Nat.{ℕ, _≤_, _<_, _^_}
 use native.Mathlib.Omega.{arith}
-use mathlib.Core.Path.{_≡_, refl, sym}
-use mathlib.Core.Bool.{Bool, true, false, cond}
+use mathlib.Core.Path.{_≡_, refl, sym, _∙_}
+use mathlib.Core.Bool.{Bool, true, false, cond, false≢true}
 use borrow.Author.Tests.{leb-true}
 use lib.Dec.{leb}
 use Rattle.quorums.proofs.Tests.{both}
@@ -13,10 +13,11 @@ use Rattle.ledger.proofs.Checks.{accepted-not-refused}
 use Rattle.replica.specs.Replicas.{fits as fitsReplica}
 use Rattle.replica.proofs.Replicas.{fits-told as replica-told, fresh-fits, fresh-typed}
 use Rattle.config.specs.declared.cluster.Config.{Config}
+use Rattle.desk.specs.declared.operation.Operation.{Operation}
 use Rattle.desk.specs.declared.record.Desk.{Desk}
 use Rattle.desk.specs.declared.record.DeskAnswer.{DeskAnswer}
 use Rattle.desk.specs.Operations.{running, fits as fitsOperation}
-use Rattle.desk.specs.Desks.{numberLawful, opens, fits, accepted, refused, freshDesk, blankDesk, openOf, Typed}
+use Rattle.desk.specs.Desks.{numberLawful, opens, fits, sound, accepted, refused, freshDesk, blankDesk, openOf, Typed}
 use Rattle.desk.proofs.Operations.{operation-told, running-later, none-fits, none-typed}
 
 -- ---- a desk that passes the record test
@@ -37,6 +38,37 @@ pub told-fits : (x : Desk) → Fits x → fits x ≡ true
 unfolding fits
 told-fits x t = simp (t .number-in, t .replica-fits, t .operation-fits)
 
+-- what is not about the replica may be tested before it: a replica fits no cluster that is none
+pub sound-first : (x : Desk) → fits x ≡ cond (sound (x .config) (x .number) (x .round) (x .operation)) (fitsReplica (x .config) (x .replica)) false
+unfolding fits sound
+sound-first x =
+    by-tests (numberLawful (x .number)) (validOf (x .config)) (fitsReplica (x .config) (x .replica))
+    (fitsOperation (x .config) (x .round) (x .operation)) (λ e. replica-told (x .config) (x .replica) e .valid)
+  where
+    by-tests : (n v r o : Bool) → (r ≡ true → v ≡ true) → cond n (cond r o false) false ≡ cond (cond n (cond v o false) false) r false
+    by-tests true true true true h = refl
+    by-tests true true true false h = refl
+    by-tests true true false true h = refl
+    by-tests true true false false h = refl
+    by-tests true false true o h = absurd (false≢true (h refl))
+    by-tests true false false o h = refl
+    by-tests false v r o h = refl
+
+pub record Sound (c : Config) (d round : ℕ) (o : Operation) : Type 0 where
+  pub number-in : numberLawful d ≡ true
+  pub valid : validOf c ≡ true
+  pub operation-fits : fitsOperation c round o ≡ true
+
+pub sound-told : (c : Config) (d round : ℕ) (o : Operation) → sound c d round o ≡ true → Sound c d round o
+unfolding sound
+sound-told c d round o e =
+    let n = both (numberLawful d) _ e in
+    let v = both (validOf c) _ (n .1) in
+    record { number-in = n .0; valid = v .0; operation-fits = v .1 }
+
+pub fits-sound : (x : Desk) → fits x ≡ true → sound (x .config) (x .number) (x .round) (x .operation) ≡ true
+fits-sound x e = both _ _ (sym (sound-first x) ∙ e) .0
+
 -- its cluster is one, and its number is a desk's
 
 pub fits-valid : (x : Desk) → fits x ≡ true → validOf (x .config) ≡ true
@@ -47,9 +79,8 @@ unfolding numberLawful
 number-told d e = let p = both (leb 1 d) (leb d 65535) e in (leb-true 1 d (p .0), leb-true d 65535 (p .1))
 
 -- an operation runs in no round before the first
-pub running-round : (x : Desk) → fits x ≡ true → x .operation .mode ≡ running → 1 ≤ x .round
-running-round x e m =
-    running-later (x .operation .mode) (x .round) (operation-told (x .config) (x .round) (x .operation) (fits-told x e .operation-fits) .mode-in) m
+pub running-round : (c : Config) (round : ℕ) (o : Operation) → fitsOperation c round o ≡ true → o .mode ≡ running → 1 ≤ round
+running-round c round o e m = running-later (o .mode) round (operation-told c round o e .mode-in) m
 
 -- ---- a fresh desk
 

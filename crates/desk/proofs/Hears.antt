@@ -81,7 +81,7 @@ module _ (x : Desk) (p : Replica) (e : fits x ≡ true) (h : fitsReplica (x .con
   unfolding phaseLawful
   finished-fits =
       kept p (x .round) (finishedOperation (x .operation)) h (record {
-        mode-in = mode-later ended (x .round) (omega arith) (running-round x e m);
+        mode-in = mode-later ended (x .round) (omega arith) (running-round (x .config) (x .round) (x .operation) (fits-told x e .operation-fits) m);
         kind-in = kind-fits ended (x .operation .kind) (kind-told (x .operation .mode) (x .operation .kind) (before .kind-in) m);
         phase-in = refl;
         answered-in = none-answered (x .config) (fits-valid x e);

@@ -3,9 +3,13 @@ use Prim.Native.Nat.{ℕ, suc}
 use mathlib.Core.Bool.{cond}
 use mathlib.Core.List.{List}
 use lib.Dec.{eqb, ltb}
+use Rattle.config.specs.declared.answer.Refusal.{Refusal}
 use Rattle.config.specs.Refusals.{refusal}
+use Rattle.config.specs.declared.answer.Verdict.{Verdict}
 use Rattle.replica.specs.declared.value.Value.{Value}
 use Rattle.replica.specs.Values.{valueFits, valueOf}
+use Rattle.desk.specs.declared.operation.Operation.{Operation}
+use Rattle.desk.specs.declared.begin.Turned.{Turned}
 use Rattle.desk.specs.declared.record.Desk.{Desk}
 use Rattle.desk.specs.declared.record.DeskAnswer.{DeskAnswer}
 use Rattle.desk.specs.Operations.{running, noOperation, begunOperation}
@@ -34,3 +38,11 @@ dropped x = turned x (x .round) noOperation
 unfoldable pub dropOf : Desk → DeskAnswer
 dropOf x =
     cond (fits x) (cond (eqb (x .operation .mode) running) (accepted (dropped x)) (refused (refusal 9) x)) (refused (refusal 1) x)
+
+-- Of what begin and drop hand back, the parts that they change; a refusal leaves them as they were.
+
+abbrev pub turnedOf : DeskAnswer → Turned
+turnedOf a = record { verdict = a .verdict; round = a .desk .round; operation = a .desk .operation }
+
+abbrev pub unturned : Refusal → ℕ → Operation → Turned
+unturned k round o = record { verdict = Verdict.Refused k; round = round; operation = o }

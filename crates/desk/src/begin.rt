@@ -5,25 +5,55 @@ use super::operation::RUNNING;
 use super::operation::WRITE;
 use super::record::Desk;
 use super::record::DeskAnswer;
+use super::record::fits_in;
+use config::Config;
 use config::Refusal;
+use config::Verdict;
+use replica::MOST_VALUE;
+use replica::Register;
 use replica::Value;
+ghost use Prim.Native.Nat.{ℕ};
 ghost use mathlib.Core.Path.{_≡_};
 ghost use mathlib.Core.List.{[]};
+ghost use Rattle.desk.specs.Parts.{deskOf};
 ghost use Rattle.desk.specs.Operations.{reading, writing};
-ghost use Rattle.desk.specs.Begins.{startOf, beginOf, dropOf};
+ghost use Rattle.desk.specs.Desks.{turned as turnedDesk};
+ghost use Rattle.desk.specs.Begins.{beginOf, dropOf, turnedOf, unturned as unturnedOf};
 
 // The last round.
 pub(crate) const MOST_ROUND: u32 = 4294967295;
+
+// What begin and drop hand back of the parts that they change, which are as they were where the verdict is a refusal.
+pub struct Turned {
+    pub verdict: Verdict,
+    pub round: u32,
+    pub operation: Operation,
+}
 
 impl Desk {
     // Begins a read, with a note, or 0 for none: 1 for the record, 8 while an operation runs, 12 in the last round.
     pub fn begin_read(self, note: u32) -> DeskAnswer
         ensures { λ r. ⌜ r ≡ beginOf self reading [] note ⌝ }
     {
-        if !self.fits() {
-            return self.refused(Refusal::BadHouse);
+        let held = self.replica.register;
+        let operation = self.operation;
+        let turned = begin_in(
+            self.config,
+            self.number,
+            &self.replica.ledger.counts,
+            &self.replica.ledger.cells,
+            held,
+            self.round,
+            operation,
+            READ,
+            b"",
+            note,
+        );
+        let verdict = turned.verdict;
+        DeskAnswer {
+            verdict,
+            desk: self.after(turned),
         }
-        self.start(READ, Value::empty(), note)
     }
 
     // Begins a write of a value, with a note, or 0 for none: 1 for the record, 14 for a value over 64 bytes, 8 while an operation runs, 12 in the last
@@ -31,42 +61,155 @@ impl Desk {
     pub fn begin_write(self, note: u32, value: &[u8]) -> DeskAnswer
         ensures { λ r. ⌜ r ≡ beginOf self writing (now (value .entry)) note ⌝ }
     {
-        if !self.fits() {
-            return self.refused(Refusal::BadHouse);
-        }
-        let value = Value::of(value);
-        if !value.fits() {
-            return self.refused(Refusal::Long);
-        }
-        self.start(WRITE, value, note)
-    }
-
-    // The tests after those of the record and the value: 8, then 12.
-    fn start(self, kind: u16, value: Value, note: u32) -> DeskAnswer
-        ensures { λ r. ⌜ r ≡ startOf self kind value note ⌝ }
-    {
+        let held = self.replica.register;
         let operation = self.operation;
-        if operation.mode == RUNNING {
-            return self.refused(Refusal::Busy);
+        let turned = begin_in(
+            self.config,
+            self.number,
+            &self.replica.ledger.counts,
+            &self.replica.ledger.cells,
+            held,
+            self.round,
+            operation,
+            WRITE,
+            value,
+            note,
+        );
+        let verdict = turned.verdict;
+        DeskAnswer {
+            verdict,
+            desk: self.after(turned),
         }
-        let round = self.round;
-        if round == MOST_ROUND {
-            return self.refused(Refusal::Spent);
-        }
-        self.turned(round + 1, Operation::begun(kind, value, note))
     }
 
     // Ends the operation that runs without a result: 1 for the record, 9 if none runs.
     pub fn drop(self) -> DeskAnswer
         ensures { λ r. ⌜ r ≡ dropOf self ⌝ }
     {
-        if !self.fits() {
-            return self.refused(Refusal::BadHouse);
-        }
+        let held = self.replica.register;
         let operation = self.operation;
-        if operation.mode != RUNNING {
-            return self.refused(Refusal::Idle);
+        let turned = drop_in(
+            self.config,
+            self.number,
+            &self.replica.ledger.counts,
+            &self.replica.ledger.cells,
+            held,
+            self.round,
+            operation,
+        );
+        let verdict = turned.verdict;
+        DeskAnswer {
+            verdict,
+            desk: self.after(turned),
         }
-        self.turned(self.round, Operation::none())
+    }
+
+    // The record after a call that turned its round and operation.
+    pub fn after(mut self, turned: Turned) -> Desk
+        ensures { λ r. ⌜ r ≡ turnedDesk self (turned .round) (turned .operation) ⌝ }
+    {
+        let operation = turned.operation;
+        self.round = turned.round;
+        self.operation = operation;
+        self
+    }
+}
+
+// Begin on the parts of a record, of which the ledger is lent as its counts and cells: an operation of a kind, with the value to be written, which for a
+// read is empty, and a note, or 0 for none.
+pub fn begin_in<'a>(
+    config: Config,
+    number: u64,
+    counts: &'a [u16; 16],
+    cells: &'a [u32; 256],
+    register: Register,
+    round: u32,
+    operation: Operation,
+    kind: u16,
+    value: &[u8],
+    note: u32,
+) -> Turned
+    ensures { λ r. ⌜ r ≡ turnedOf (beginOf (deskOf config number (now (counts .entry)) (now (cells .entry)) register round operation) kind (now (value .entry)) note) ⌝ }
+{
+    match may_begin(
+        config,
+        number,
+        counts,
+        cells,
+        register,
+        round,
+        operation,
+        value,
+    ) {
+        Verdict::Accepted => Turned {
+            verdict: Verdict::Accepted,
+            round: round + 1,
+            operation: Operation::begun(kind, Value::of(value), note),
+        },
+        Verdict::Refused(r) => unturned(r, round, operation),
+    }
+}
+
+// Whether an operation with a value may begin, of whatever kind and with whatever note: 1 for the record, 14, 8, 12.
+fn may_begin<'a>(
+    config: Config,
+    number: u64,
+    counts: &'a [u16; 16],
+    cells: &'a [u32; 256],
+    register: Register,
+    round: u32,
+    operation: Operation,
+    value: &[u8],
+) -> Verdict
+    ensures { λ r. ⌜ ((kind note : ℕ) → r ≡ beginOf (deskOf config number (now (counts .entry)) (now (cells .entry)) register round operation) kind (now (value .entry)) note .verdict) ⌝ }
+{
+    if !fits_in(config, number, counts, cells, register, round, operation) {
+        return Verdict::Refused(Refusal::BadHouse);
+    }
+    if (MOST_VALUE as usize) < value.len() {
+        return Verdict::Refused(Refusal::Long);
+    }
+    if operation.mode == RUNNING {
+        return Verdict::Refused(Refusal::Busy);
+    }
+    if round == MOST_ROUND {
+        return Verdict::Refused(Refusal::Spent);
+    }
+    Verdict::Accepted
+}
+
+// Drop on the parts of a record.
+pub fn drop_in<'a>(
+    config: Config,
+    number: u64,
+    counts: &'a [u16; 16],
+    cells: &'a [u32; 256],
+    register: Register,
+    round: u32,
+    operation: Operation,
+) -> Turned
+    ensures { λ r. ⌜ r ≡ turnedOf (dropOf (deskOf config number (now (counts .entry)) (now (cells .entry)) register round operation)) ⌝ }
+{
+    if !fits_in(config, number, counts, cells, register, round, operation) {
+        return unturned(Refusal::BadHouse, round, operation);
+    }
+    if operation.mode != RUNNING {
+        return unturned(Refusal::Idle, round, operation);
+    }
+    Turned {
+        verdict: Verdict::Accepted,
+        round,
+        operation: Operation::none(),
+    }
+}
+
+// A refusal, with the round and the operation as they were.
+fn unturned(refusal: Refusal, round: u32, operation: Operation) -> Turned
+    ensures { λ r. ⌜ r ≡ unturnedOf refusal round operation ⌝ }
+{
+    Turned {
+        verdict: Verdict::Refused(refusal),
+        round,
+        operation,
     }
 }

@@ -8,10 +8,17 @@ mod operation;
 mod record;
 mod result;
 
+pub use ask::ask_in;
+pub use begin::Turned;
+pub use begin::begin_in;
+pub use begin::drop_in;
 pub use lent::hear_lent;
 pub use operation::Operation;
+pub use operation::READ;
+pub use operation::WRITE;
 pub use record::Desk;
 pub use record::DeskAnswer;
 pub use record::Heard;
 pub use record::Hearing;
 pub use result::Told;
+pub use result::result_in;

@@ -8,7 +8,7 @@ use replica::Replica;
 use replica::fits_lent;
 ghost use mathlib.Core.Path.{_≡_};
 ghost use Rattle.desk.specs.Parts.{deskOf};
-ghost use Rattle.desk.specs.Desks.{numberLawful, fits as fitsOf, freshDesk, opens as opensOf, openOf, accepted, refused as refusedOf, turned as turnedOf};
+ghost use Rattle.desk.specs.Desks.{numberLawful, fits as fitsOf, sound, freshDesk, opens as opensOf, openOf, refused as refusedOf};
 
 #[repr(C)]
 pub struct Desk {
@@ -93,24 +93,6 @@ impl Desk {
             desk: self,
         }
     }
-
-    // The record in another round and with another operation.
-    pub(crate) fn turned(self, round: u32, operation: Operation) -> DeskAnswer
-        ensures { λ r. ⌜ r ≡ accepted (turnedOf self round operation) ⌝ }
-    {
-        let config = self.config;
-        let replica = self.replica;
-        DeskAnswer {
-            verdict: Verdict::Accepted,
-            desk: Desk {
-                config,
-                number: self.number,
-                replica,
-                round,
-                operation,
-            },
-        }
-    }
 }
 
 // Whether a number is a desk's and the cluster within bounds.
@@ -145,10 +127,20 @@ pub(crate) fn fits_in<'a>(
 ) -> bool
     ensures { λ r. ⌜ r ≡ fitsOf (deskOf config number (now (counts .entry)) (now (cells .entry)) register round operation) ⌝ }
 {
+    if !sound_in(config, number, round, operation) {
+        return false;
+    }
+    fits_lent(counts, cells, register, config)
+}
+
+// What of the record test is not about the replica: the number, the cluster and the operation.
+pub(crate) fn sound_in(config: Config, number: u64, round: u32, operation: Operation) -> bool
+    ensures { λ r. ⌜ r ≡ sound config number round operation ⌝ }
+{
     if !number_lawful(number) {
         return false;
     }
-    if !fits_lent(counts, cells, register, config) {
+    if !config.valid() {
         return false;
     }
     operation.fits(config, round)

@@ -1,10 +1,14 @@
 // A desk tells the result of an operation that has ended (paper 01, "Desk": Result).
 use super::operation::ENDED;
+use super::operation::Operation;
 use super::record::Desk;
+use super::record::fits_in;
+use config::Config;
 use config::Refusal;
 use config::Verdict;
 use replica::Register;
 ghost use mathlib.Core.Path.{_≡_};
+ghost use Rattle.desk.specs.Parts.{deskOf};
 ghost use Rattle.desk.specs.Results.{refused as refusedOf, resultOf};
 
 // The kind of the operation (1 read, 2 write), its tag and value, and its restarts; every field is 0 beside a refusal.
@@ -20,20 +24,44 @@ impl Desk {
     pub fn result(self) -> Told
         ensures { λ r. ⌜ r ≡ resultOf self ⌝ }
     {
-        if !self.fits() {
-            return untold(Refusal::BadHouse);
-        }
+        let held = self.replica.register;
         let operation = self.operation;
-        if operation.mode != ENDED {
-            return untold(Refusal::Idle);
-        }
-        let chosen = operation.chosen;
-        Told {
-            verdict: Verdict::Accepted,
-            kind: operation.kind,
-            register: chosen.trimmed(),
-            restarts: operation.restarts,
-        }
+        result_in(
+            self.config,
+            self.number,
+            &self.replica.ledger.counts,
+            &self.replica.ledger.cells,
+            held,
+            self.round,
+            operation,
+        )
+    }
+}
+
+// Result of the parts of a record, of which the ledger is lent as its counts and cells.
+pub fn result_in<'a>(
+    config: Config,
+    number: u64,
+    counts: &'a [u16; 16],
+    cells: &'a [u32; 256],
+    register: Register,
+    round: u32,
+    operation: Operation,
+) -> Told
+    ensures { λ r. ⌜ r ≡ resultOf (deskOf config number (now (counts .entry)) (now (cells .entry)) register round operation) ⌝ }
+{
+    if !fits_in(config, number, counts, cells, register, round, operation) {
+        return untold(Refusal::BadHouse);
+    }
+    if operation.mode != ENDED {
+        return untold(Refusal::Idle);
+    }
+    let chosen = operation.chosen;
+    Told {
+        verdict: Verdict::Accepted,
+        kind: operation.kind,
+        register: chosen.trimmed(),
+        restarts: operation.restarts,
     }
 }
 

@@ -1,5 +1,6 @@
 -- Laws.
 pub mod Small
 pub mod Places
+pub mod Answered
 pub mod Apart
 pub mod Published

@@ -5,6 +5,10 @@ use super::code::of_number;
 use super::code::of_verdict;
 use desk::Desk;
 use desk::DeskAnswer;
+use desk::READ;
+use desk::WRITE;
+use desk::begin_in;
+use desk::drop_in;
 use desk::hear_lent;
 use replica::Register;
 ghost use mathlib.Core.Path.{_≡_};
@@ -47,7 +51,25 @@ pub extern "C" fn tovridsa_open_desk(n: u64, f: u64, number: u64) -> AnsweredDes
 pub extern "C" fn tovridsa_begin_read(desk: Desk, note: u32) -> AnsweredDesk
     ensures { λ r. ⌜ r ≡ deskCode (beginOf desk reading [] note) ⌝ }
 {
-    of_desk(desk.begin_read(note))
+    let held = desk.replica.register;
+    let operation = desk.operation;
+    let turned = begin_in(
+        desk.config,
+        desk.number,
+        &desk.replica.ledger.counts,
+        &desk.replica.ledger.cells,
+        held,
+        desk.round,
+        operation,
+        READ,
+        b"",
+        note,
+    );
+    let verdict = turned.verdict;
+    AnsweredDesk {
+        answer: of_verdict(verdict),
+        desk: desk.after(turned),
+    }
 }
 
 // Begins a write of a value, with a note, or 0 for none.
@@ -55,7 +77,25 @@ pub extern "C" fn tovridsa_begin_read(desk: Desk, note: u32) -> AnsweredDesk
 pub extern "C" fn tovridsa_begin_write(desk: Desk, note: u32, value: &[u8]) -> AnsweredDesk
     ensures { λ r. ⌜ r ≡ deskCode (beginOf desk writing (now (value .entry)) note) ⌝ }
 {
-    of_desk(desk.begin_write(note, value))
+    let held = desk.replica.register;
+    let operation = desk.operation;
+    let turned = begin_in(
+        desk.config,
+        desk.number,
+        &desk.replica.ledger.counts,
+        &desk.replica.ledger.cells,
+        held,
+        desk.round,
+        operation,
+        WRITE,
+        value,
+        note,
+    );
+    let verdict = turned.verdict;
+    AnsweredDesk {
+        answer: of_verdict(verdict),
+        desk: desk.after(turned),
+    }
 }
 
 // Writes a request to a server into a buffer from a place on: the place after it.
@@ -109,7 +149,22 @@ pub extern "C" fn tovridsa_result(desk: Desk) -> AnsweredResult
 pub extern "C" fn tovridsa_drop(desk: Desk) -> AnsweredDesk
     ensures { λ r. ⌜ r ≡ deskCode (dropOf desk) ⌝ }
 {
-    of_desk(desk.drop())
+    let held = desk.replica.register;
+    let operation = desk.operation;
+    let turned = drop_in(
+        desk.config,
+        desk.number,
+        &desk.replica.ledger.counts,
+        &desk.replica.ledger.cells,
+        held,
+        desk.round,
+        operation,
+    );
+    let verdict = turned.verdict;
+    AnsweredDesk {
+        answer: of_verdict(verdict),
+        desk: desk.after(turned),
+    }
 }
 
 fn of_desk(answer: DeskAnswer) -> AnsweredDesk

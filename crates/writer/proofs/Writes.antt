@@ -1,4 +1,4 @@
--- What a write answers and leaves in the buffer: refused, too long, done.
+-- What a write answers and leaves in the buffer: refused, taken, and then too long or done.
 use Prim.Native.Nat.{ℕ, _+_, _-_, _≤_, _<_}
 use native.Mathlib.Nat.{le-refl}
 use mathlib.Core.Path.{_≡_, ap}
@@ -27,39 +27,38 @@ back p xs ys = take p xs ++ (ys ++ drop (length xs - p) (drop p xs))
 pub lent-length : (p : ℕ) (xs : List ℕ) → length (lent p xs) ≡ length xs - p
 lent-length p xs = length-take-le (length xs - p) (drop p xs) (rw length-drop (le-refl (length xs - p)))
 
--- nothing is written
-abbrev unwritten : List ℕ → Refusal → Written
-unwritten out k = record { answer = Number.Refused k; out = out }
+-- what is written is an answer and a buffer
+pub in-parts : {w v : Written} → w ≡ v → (w .answer ≡ v .answer) × (w .out ≡ v .out)
+in-parts e = (ap (λ (x : Written). x .answer) e, ap (λ (x : Written). x .out) e)
 
 module _ (c : Config) (e : Envelope) (r : Replica) (out : List ℕ) (at : ℕ) where
   pub write-refused : (k : Refusal) → verdictOf (check c (messageOf c e r)) ≡ Verdict.Refused k
       → (Number.Refused k ≡ writeOf c e r out at .answer) × (out ≡ writeOf c e r out at .out)
   unfolding writeOf
   write-refused k found =
-      let w = verdict-refused (check c (messageOf c e r)) k (place (messageOf c e r) out at) (unwritten out) found in
-      (ap (λ (x : Written). x .answer) w, ap (λ (x : Written). x .out) w)
+      in-parts
+      (verdict-refused (check c (messageOf c e r)) k (place (messageOf c e r) out at) (λ (x : Refusal). record { answer = Number.Refused x; out = out }) found)
 
-  pub write-narrow : check c (messageOf c e r) ≡ 0 → length out < at + length (messageOf c e r)
-      → (Number.Refused (refusal 13) ≡ writeOf c e r out at .answer) × (out ≡ writeOf c e r out at .out)
-  unfolding writeOf place fits
-  write-narrow found long =
-      let taken = eq-eqb (check c (messageOf c e r)) 0 found in
-      let narrow = lt-leb (at + length (messageOf c e r)) (length out) long in
-      (rw (taken, narrow), rw (taken, narrow))
+  pub write-taken : check c (messageOf c e r) ≡ 0 → place (messageOf c e r) out at ≡ writeOf c e r out at
+  unfolding writeOf
+  write-taken found = rw (eq-eqb (check c (messageOf c e r)) 0 found)
+
+module _ (m out : List ℕ) (at : ℕ) where
+  pub place-narrow : length out < at + length m → (Number.Refused (refusal 13) ≡ place m out at .answer) × (out ≡ place m out at .out)
+  unfolding place fits
+  place-narrow long = let narrow = lt-leb (at + length m) (length out) long in (rw narrow, rw narrow)
 
   -- the part from the place on comes back with the message at its front
-  part-over : (ys : List ℕ) → ys ≡ over (messageOf c e r) (lent at out) → back at out ys ≡ take at out ++ over (messageOf c e r) (drop at out)
+  part-over : (ys : List ℕ) → ys ≡ over m (lent at out) → back at out ys ≡ take at out ++ over m (drop at out)
   part-over ys given =
       let whole : lent at out ≡ drop at out = take-all (length out - at) (drop at out) (rw length-drop (le-refl (length out - at))) in
       let none : drop (length out - at) (drop at out) ≡ [] =
       drop-of-length-le (drop at out) {i = length out - at} (rw length-drop (le-refl (length out - at))) in
       rw (none, append-nil, given, whole)
 
-  pub write-done : (ys : List ℕ) (n : ℕ) → check c (messageOf c e r) ≡ 0 → at + length (messageOf c e r) ≤ length out
-      → ys ≡ over (messageOf c e r) (lent at out) → n ≡ length (messageOf c e r)
-      → (Number.Value (at + n) ≡ writeOf c e r out at .answer) × (back at out ys ≡ writeOf c e r out at .out)
-  unfolding writeOf place fits
-  write-done ys n found room given end =
-      let taken = eq-eqb (check c (messageOf c e r)) 0 found in
-      let wide = le-leb (at + length (messageOf c e r)) (length out) room in
-      (rw (taken, wide, end), rw (taken, wide) (part-over ys given))
+  pub place-done : (ys : List ℕ) (n : ℕ) → at + length m ≤ length out → ys ≡ over m (lent at out) → n ≡ length m
+      → (Number.Value (at + n) ≡ place m out at .answer) × (back at out ys ≡ place m out at .out)
+  unfolding place fits
+  place-done ys n room given end =
+      let wide = le-leb (at + length m) (length out) room in
+      (rw (wide, end), rw wide (part-over ys given))

@@ -13,8 +13,9 @@ use replica::Replica;
 ghost use mathlib.Core.Path.{_≡_};
 ghost use lib.ListN.{length};
 ghost use Rattle.replica.specs.Parts.{replicaOf};
-ghost use Rattle.message.specs.Answers.{verdictOf, writeOf};
-ghost use Rattle.message.specs.Faults.{faultOf};
+ghost use Rattle.message.specs.Envelopes.{messageOf};
+ghost use Rattle.message.specs.Answers.{verdictOf, place, writeOf};
+ghost use Rattle.message.specs.Faults.{faultOf, sendOf};
 
 // Writes a message into a buffer from a place on, and hands back the place after it. Refused are what the reader would refuse, by its number,
 // and then a message that does not fit (13); the buffer is then as it was.
@@ -72,6 +73,41 @@ fn write_judged<'a>(
     if let Verdict::Refused(r) = verdict {
         return Number::Refused(r);
     }
+    put_message(config, envelope, counts, cells, register, out, at)
+}
+
+// What a party sends of what it holds, lent in the same way: 1 where the reader would refuse the message, by whatever number; else it is written.
+pub fn send_lent<'a>(
+    config: Config,
+    envelope: Envelope,
+    counts: &'a [u16; 16],
+    cells: &'a [u32; 256],
+    register: Register,
+    out: &mut [u8],
+    at: usize,
+) -> Number
+    ensures { λ r. ⌜ (r ≡ sendOf config envelope (replicaOf (now (counts .entry)) (now (cells .entry)) register) (now (out .entry)) at .answer) × (now (out .exit) ≡ sendOf config envelope (replicaOf (now (counts .entry)) (now (cells .entry)) register) (now (out .entry)) at .out) ⌝ }
+{
+    let verdict = fault(config, envelope, counts, cells, register);
+    if let Verdict::Refused(_) = verdict {
+        return Number::Refused(Refusal::BadHouse);
+    }
+    put_message(config, envelope, counts, cells, register, out, at)
+}
+
+// A message that the reader takes, where it fits.
+fn put_message<'a>(
+    config: Config,
+    envelope: Envelope,
+    counts: &'a [u16],
+    cells: &'a [u32],
+    register: Register,
+    out: &mut [u8],
+    at: usize,
+) -> Number
+    requires { ⌜ (length (now counts) ≡ 16) × (length (now cells) ≡ 256) × (faultOf config envelope (replicaOf (now counts) (now cells) register) ≡ 0) ⌝ }
+    ensures { λ r. ⌜ (r ≡ place (messageOf config envelope (replicaOf (now (counts .entry)) (now (cells .entry)) register)) (now (out .entry)) at .answer) × (now (out .exit) ≡ place (messageOf config envelope (replicaOf (now (counts .entry)) (now (cells .entry)) register)) (now (out .entry)) at .out) ⌝ }
+{
     let rows = mark_rows(counts, cells);
     let plan = measure(config, envelope, register, rows.map, rows.bytes);
     if out.len() < at {

@@ -6,5 +6,6 @@ mod outline;
 mod put;
 mod whole;
 
+pub use call::send_lent;
 pub use call::write;
 pub use call::write_lent;

@@ -1,18 +1,35 @@
--- `tovridsa_begin_read` meets its contract.
-use Rattle.host.specs.Calls.{deskCode}
+-- `tovridsa_begin_read` meets its contract: the parts that changed are put back into the record.
+use Rattle.ledger.proofs.Answers.{read-back}
+use Rattle.desk.proofs.Begins.{begin-back}
+use Rattle.host.proofs.Answered.{answered}
+use mathlib.Core.Path.{_∙_}
 use borrow.Author.Needs.{needs}
-use mathlib.Core.Path.{ap, _∙_}
 use Rattle.host.proofs.desks.tovridsa_begin_read.Statement.{statement}
 use Rattle.host.proofs.desks.tovridsa_begin_read.Tie as tie
 
-begin-read-requires : tie.Need-begin-read-requires
-begin-read-requires c κs = search needs
+slice-aggregate-begin-in : tie.Need-slice-aggregate-begin-in
+slice-aggregate-begin-in c = search needs
 
-of-desk-requires : tie.Need-of-desk-requires
-of-desk-requires c κs = search needs
+begin-in-requires : tie.Need-begin-in-requires
+begin-in-requires c κs = search needs
+
+of-verdict-requires : tie.Need-of-verdict-requires
+of-verdict-requires c κs = search needs
+
+after-requires : tie.Need-after-requires
+after-requires c κs = search needs
 
 returns : tie.Need-returns
-returns c = c .of-desk .ensures ∙ ap deskCode (c .before .begin-read .ensures)
+returns c =
+    let number = c .before .of-verdict in
+    answered (read-back (number .result) (number .ok) ∙ number .ensures) (begin-back _ _ _ _ _ _ (c .before .before .begin-in .ensures) (c .after .ensures))
 
 pub tovridsa-begin-read-spec : {M : Type 1} → statement M
-tovridsa-begin-read-spec = tie.close (tie.spec begin-read-requires of-desk-requires returns)
+tovridsa-begin-read-spec =
+    tie.close
+    (tie.spec
+    slice-aggregate-begin-in
+    begin-in-requires
+    of-verdict-requires
+    after-requires
+    returns)

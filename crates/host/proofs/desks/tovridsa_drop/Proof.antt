@@ -1,18 +1,26 @@
--- `tovridsa_drop` meets its contract.
-use Rattle.host.specs.Calls.{deskCode}
+-- `tovridsa_drop` meets its contract: the parts that changed are put back into the record.
+use Rattle.ledger.proofs.Answers.{read-back}
+use Rattle.desk.proofs.Begins.{drop-back}
+use Rattle.host.proofs.Answered.{answered}
+use mathlib.Core.Path.{_∙_}
 use borrow.Author.Needs.{needs}
-use mathlib.Core.Path.{ap, _∙_}
 use Rattle.host.proofs.desks.tovridsa_drop.Statement.{statement}
 use Rattle.host.proofs.desks.tovridsa_drop.Tie as tie
 
-drop-requires : tie.Need-drop-requires
-drop-requires c κs = search needs
+drop-in-requires : tie.Need-drop-in-requires
+drop-in-requires c κs = search needs
 
-of-desk-requires : tie.Need-of-desk-requires
-of-desk-requires c κs = search needs
+of-verdict-requires : tie.Need-of-verdict-requires
+of-verdict-requires c κs = search needs
+
+after-requires : tie.Need-after-requires
+after-requires c κs = search needs
 
 returns : tie.Need-returns
-returns c = c .of-desk .ensures ∙ ap deskCode (c .before .drop .ensures)
+returns c =
+    let number = c .before .of-verdict in
+    answered (read-back (number .result) (number .ok) ∙ number .ensures) (drop-back _ _ _ (c .before .before .drop-in .ensures) (c .after .ensures))
 
 pub tovridsa-drop-spec : {M : Type 1} → statement M
-tovridsa-drop-spec = tie.close (tie.spec drop-requires of-desk-requires returns)
+tovridsa-drop-spec =
+    tie.close (tie.spec drop-in-requires of-verdict-requires after-requires returns)
