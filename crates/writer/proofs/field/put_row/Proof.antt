@@ -31,14 +31,19 @@ celled c = c .before .before .before
 abbrev test : tie.After-put-cells-arg → tie.Else1
 test c = counted c .before .before
 
--- a row that stands has room: count and cell map in 4 bytes, and the cells
+-- a row that stands: its count isn't 0, and it has room for count and cell map in 4 bytes, and for the cells
+
+some : (c : tie.Else1) → start c .args .count ≡ 0 → ⊥
+some c e = omega (arith, c .if1 .left)
+
 room : (c : tie.Else1) → start c .args .at + 4 + length (cells (cellOf (start c))) ≤ length (now (start c .args .out))
-room c = let s = start c in omega (arith, present-cells (s .args .count) (cellOf s) (c .if1 .left), s .pre .2)
+room c = let s = start c in omega (arith, present-cells (s .args .count) (cellOf s) (some c), s .pre .2)
 
 returns : tie.Need-returns
 returns c =
     let s = c .before .before .before in
-    let absent : row (s .args .count) (cellOf s) ≡ [] = row-absent _ _ (c .if1 .taken) (s .pre .1 (c .if1 .taken)) in
+    let none : s .args .count ≡ 0 = omega (arith, c .if1 .taken) in
+    let absent : row (s .args .count) (cellOf s) ≡ [] = row-absent _ _ none (s .pre .1 none) in
     (rw absent (sym (onto-nothing _ _)), rw absent (omega arith))
 
 put-bytes-requires : tie.Need-put-bytes-requires
@@ -70,8 +75,8 @@ returns-2 c =
     let below = e .0 ∙ ap (λ l. onto (cells (cellOf s)) l (a .at + 4)) (counted (put .before) .put-bytes .ensures) in (
       mapped .put-bytes2 .ensures
           ∙ ap₂ (λ m l. onto (bytes 2 m) l (a .at + 2)) (e .2) below
-          ∙ row-put (a .count) (cellOf s) (t .if1 .left) (now (a .out)) (a .at) (s .pre .2),
-      omega (arith, e .1, present-cells (a .count) (cellOf s) (t .if1 .left)),
+          ∙ row-put (a .count) (cellOf s) (some t) (now (a .out)) (a .at) (s .pre .2),
+      omega (arith, e .1, present-cells (a .count) (cellOf s) (some t)),
     )
 
 pub put-row-spec : {M : Type 1} → statement M
