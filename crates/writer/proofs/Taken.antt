@@ -27,6 +27,7 @@ use Rattle.message.proofs.Found.{taken-told}
 use Rattle.message.proofs.Longest.{written-short}
 use Rattle.writer.specs.Outlines.{Counted, CountsBelow}
 
+-- each number fits its type
 pub lent-typed : (counts cells : List ℕ) (g : Register) → length counts ≡ 16 → length cells ≡ 256 → ((i : ℕ) → Fits w16 (getD counts i 0))
     → ((k : ℕ) → Fits w32 (getD cells k 0)) → TypedRegister g → TypedReplica (replicaOf counts cells g)
 lent-typed counts cells g m n a b t =
@@ -35,7 +36,7 @@ lent-typed counts cells g m n a b t =
       register-typed = t;
     }
 
--- it is not long, nor is its value; of at most 16 servers those that gave nothing have an empty row, and there are no others
+-- it has at most 1,111 bytes and its value at most 64; there are at most 16 servers, no other has a count, and a row whose count is 0 is empty
 pub record Taken (c : Config) (e : Envelope) (counts cells : List ℕ) (g : Register) : Type 0 where
   pub not-long : length (messageOf c e (replicaOf counts cells g)) ≤ 1111
   pub short : g .value .length ≤ 64

@@ -75,7 +75,7 @@ fn write_judged<'a>(
     put_message(config, envelope, counts, cells, register, out, at)
 }
 
-// What a party sends of what it holds, lent in the same way: 1 where the reader would refuse the message, by whatever number; else it is written.
+// What a party sends of what it holds, lent in the same way: a message that the reader would refuse, by whatever number, is 1.
 pub fn send_lent<'a>(
     config: Config,
     envelope: Envelope,
@@ -94,7 +94,7 @@ pub fn send_lent<'a>(
     put_message(config, envelope, counts, cells, register, out, at)
 }
 
-// A message that the reader takes, where it fits.
+// Writes a message that the reader takes, or refuses it where it does not fit (13).
 fn put_message<'a>(
     config: Config,
     envelope: Envelope,

@@ -1,4 +1,4 @@
-// What of an envelope and a replica stands in their message, and whether the message is longer than a buffer.
+// What of an envelope and a replica stands in their message, and whether there is room for it.
 use config::Config;
 use message::Envelope;
 use replica::Register;
