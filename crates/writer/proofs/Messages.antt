@@ -27,7 +27,20 @@ unfolding register registerMark
 register-written c stamp desk v h = let e : min (v .length) 255 ≡ v .length = omega arith in rw (bytes-length v, e)
 
 module _ (c : Config) (e : Envelope) (r : Replica) where
-  pub message-written : (map rowsMap : ℕ) → map ≡ fieldMapOf (fieldsOf e r) → rowsMap ≡ rowMap (countOf (r .ledger)) (cellOf (r .ledger))
+  -- the map, from the length of the value
+  map-length : fieldMapOf (fieldsOf e r)
+      ≡ fieldMap (e .desk) (e .round) (registerMark (r .register .stamp) (r .register .desk) (r .register .value .length))
+      (rowMap (countOf (r .ledger)) (cellOf (r .ledger))) (e .note)
+  unfolding fieldMapOf
+  map-length =
+      ap
+      (λ n.
+      fieldMap (e .desk) (e .round) (registerMark (r .register .stamp) (r .register .desk) n) (rowMap (countOf (r .ledger)) (cellOf (r .ledger))) (e .note))
+      (bytes-length (r .register .value))
+
+  pub message-written : (map rowsMap : ℕ)
+      → map ≡ fieldMap (e .desk) (e .round) (registerMark (r .register .stamp) (r .register .desk) (r .register .value .length)) rowsMap (e .note)
+      → rowsMap ≡ rowMap (countOf (r .ledger)) (cellOf (r .ledger))
       → head map (e .kind) (e .server) (e .desk) (e .round) ++ register c (r .register .stamp) (r .register .desk) (carried r) ++ number rowsMap 2 rowsMap
       ++ rows (countOf (r .ledger)) (cellOf (r .ledger))
       ++ number (e .note) 4 (e .note)
@@ -38,6 +51,7 @@ module _ (c : Config) (e : Envelope) (r : Replica) where
       rw (
         m,
         s,
+        ← map-length,
         append-assoc
             (head (fieldMapOf (fieldsOf e r)) (e .kind) (e .server) (e .desk) (e .round) ++ register c (r .register .stamp) (r .register .desk) (carried r))
             (number all 2 all) (rows (countOf (r .ledger)) (cellOf (r .ledger))),
@@ -56,15 +70,4 @@ module _ (c : Config) (e : Envelope) (r : Replica) where
       + 2 * stands (rowMap (countOf (r .ledger)) (cellOf (r .ledger)))
       + length (rows (countOf (r .ledger)) (cellOf (r .ledger)))
       + 4 * stands (e .note))
-      (bytes-length (r .register .value))
-
-  -- the map, from the length of the value
-  pub map-length : fieldMapOf (fieldsOf e r)
-      ≡ fieldMap (e .desk) (e .round) (registerMark (r .register .stamp) (r .register .desk) (r .register .value .length))
-      (rowMap (countOf (r .ledger)) (cellOf (r .ledger))) (e .note)
-  unfolding fieldMapOf
-  map-length =
-      ap
-      (λ n.
-      fieldMap (e .desk) (e .round) (registerMark (r .register .stamp) (r .register .desk) n) (rowMap (countOf (r .ledger)) (cellOf (r .ledger))) (e .note))
       (bytes-length (r .register .value))

@@ -39,11 +39,8 @@ marked-small {n} {f} {map} {power} s m h =
     let t : m * power ≤ power = rw one-mul at (mul-le-mul-right power h) in
     (omega arith, omega arith, omega arith)
 
-pub marked-all : {n : ℕ} {f : ℕ → ℕ} {map power : ℕ} → Marked n f map power → 16 ≤ n → (map ≡ marks 16 f) × (map ≤ 65535)
-marked-all {n} {f} {map} {power} s l =
-    let e : n ≡ 16 = omega (arith, s .within) in
-    let r = marked-room s in
-    (s .is-map ∙ ap (λ (k : ℕ). marks k f) e, omega arith)
+pub marked-all : {n : ℕ} {f : ℕ → ℕ} {map power : ℕ} → Marked n f map power → 16 ≤ n → map ≡ marks 16 f
+marked-all {n} {f} s l = s .is-map ∙ ap (λ (k : ℕ). marks k f) (omega (arith, s .within))
 
 -- the map of a message, bit by bit
 pub map-sum : (desk round register rows note : ℕ)

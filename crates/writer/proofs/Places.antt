@@ -1,12 +1,14 @@
 -- Laws of `onto`: writing nothing, one byte, and one part after the other, each from the place after the one before it. The writers of fields, straight on or
 -- in a loop, are one argument: of m parts the first n are written.
-use Prim.Native.Nat.{ℕ, _+_, _≤_, _<_}
+use Prim.Native.Nat.{ℕ, zero, suc, _+_, _≤_, _<_}
 use native.Mathlib.Numerals.{add-one}
 use native.Mathlib.Omega.{arith}
-use mathlib.Core.Path.{_≡_, sym, ap, _∙_}
-use mathlib.Core.List.{List, [], _∷_, _++_, append-assoc}
+use mathlib.Core.Path.{_≡_, refl, sym, ap, _∙_}
+use mathlib.Core.Logic.{⊎-elim}
+use mathlib.Core.List.{List, [], _∷_, _++_, append-assoc, append-nil}
 use lib.ListN.{length, take, drop, set, length-append, length-take, length-drop, take-append-drop}
 use lib.Seq.{length-take-le, take-at, drop-at, take-take, take-append-le, drop-drop, set-split}
+use Rattle.quorums.proofs.Sums.{below-suc}
 use Rattle.format.specs.Bytes.{series}
 use Rattle.format.proofs.Lengths.{series-next, series-le, series-fits}
 use Rattle.message.specs.Answers.{over}
@@ -48,11 +50,31 @@ module _ (e f l : List ℕ) (at : ℕ) where
       let second : drop (length e) (drop at (front ++ back)) ≡ back = drop-drop (length e) at (front ++ back) ∙ drop-at front back (at + length e) long in
       rw (first, second, rest-drop, drop-drop (length e) at l) (simp append-assoc)
 
+-- a, f with room for b before it, and then b
+pub onto-between : (a b f l : List ℕ) (at p q : ℕ) → p ≡ at + length a → q ≡ p + length b → q ≤ length l
+    → onto b (onto f (onto a l at) q) p ≡ onto (a ++ b ++ f) l at
+onto-between a b f l at p q ep eq h =
+    rw (eq, ep) (onto-before b f (onto a l at) (at + length a) (omega (arith, onto-length a l at (omega arith))))
+    ∙ onto-after a (b ++ f) l at (omega arith)
+    ∙ ap (λ x. onto x l at) (sym (append-assoc a b f))
+
 -- of m parts the first n are written onto the entry's buffer from `at` on, and p is the place after them
 pub record Written (n m : ℕ) (part : ℕ → List ℕ) (entry out : List ℕ) (at p : ℕ) : Type 0 where
   pub is-buffer : out ≡ onto (series n part) entry at
   pub is-place : p ≡ at + length (series n part)
   pub room : at + length (series m part) ≤ length entry
+
+-- parts from k on that have no bytes
+series-cut : (n k : ℕ) (f : ℕ → List ℕ) → k ≤ n → ((i : ℕ) → k ≤ i → i < n → f i ≡ []) → series n f ≡ series k f
+series-cut zero k f l none = let e : k ≡ 0 = omega arith in rw e refl
+series-cut (suc n) k f l none =
+    ⊎-elim (λ (d : k ≡ suc n). rw d refl)
+    (λ (d : k < suc n).
+    series-next n f
+    ∙ ap (λ x. series n f ++ x) (none n (omega arith) (omega arith))
+    ∙ append-nil (series n f)
+    ∙ series-cut n k f (omega arith) (λ i a b. none i a (omega arith)))
+    (below-suc (omega arith))
 
 pub written-none : (m : ℕ) (part : ℕ → List ℕ) (l : List ℕ) (at : ℕ) → at + length (series m part) ≤ length l → Written 0 m part l l at at
 unfolding series
@@ -73,6 +95,16 @@ module _ {n m : ℕ} {part : ℕ → List ℕ} {l out : List ℕ} {at p : ℕ} (
       record {
         is-buffer = put .0 ∙ rw (w .is-buffer, w .is-place, e) (onto-after (series n part) (part n) l at (omega (arith, w .room)));
         is-place = rw (e, length-append) (omega (arith, w .is-place, put .1));
+        room = w .room;
+      }
+
+  -- and so are all, where the others have no bytes
+  pub written-rest : n ≤ m → ((k : ℕ) → n ≤ k → k < m → part k ≡ []) → Written m m part l out at p
+  written-rest h none =
+      let e : series m part ≡ series n part = series-cut m n part h none in
+      record {
+        is-buffer = w .is-buffer ∙ ap (λ x. onto x l at) (sym e);
+        is-place = w .is-place ∙ ap (λ x. at + length x) (sym e);
         room = w .room;
       }
 

@@ -39,6 +39,9 @@ unfolding number
 number-present zero w x ne = absurd (ne refl)
 number-present (suc s) w x ne = refl
 
+pub present-length : (s w x : ℕ) → (s ≡ 0 → ⊥) → length (number s w x) ≡ w
+present-length s w x ne = ap length (number-present s w x ne) ∙ bytes-length w x
+
 -- a value goes in from its first byte up
 pub value-up : (k : ℕ) (v out : List ℕ) (at : ℕ) → k < length v → at + k < length out
     → set (onto (take k v) out at) (at + k) (getD v k 0) ≡ onto (take (k + 1) v) out at

@@ -1,5 +1,6 @@
--- Rows as the loops see them: a row is a part of the cells, stands by its count and its cell map, and takes no bytes where it is absent.
-use Prim.Native.Nat.{ℕ, _+_, _*_, _-_, _<_}
+-- Rows as the loops see them: a row is a part of the cells. Where every row whose count is 0 is empty, it stands where its count does, and has no bytes
+-- elsewhere.
+use Prim.Native.Nat.{ℕ, _+_, _*_, _-_, _≤_, _<_}
 use native.Mathlib.Numerals.{add-one}
 use native.Mathlib.Omega.{arith}
 use mathlib.Core.Path.{_≡_, refl, sym, ap, _∙_}
@@ -8,12 +9,16 @@ use lib.ListN.{length, getD, take, drop, length-append, length-drop, drop-of-len
 use lib.Seq.{length-take-le, getD-take, getD-drop}
 use Rattle.quorums.specs.Sum.{sum}
 use Rattle.quorums.proofs.Sums.{sum-same, sum-le}
-use Rattle.format.specs.Bytes.{number, series, stands, marks}
-use Rattle.format.specs.Table.{cellMap, cells, rowMark, row}
-use Rattle.format.proofs.Lengths.{number-same, series-next}
+use Rattle.format.specs.Bytes.{bytes, series, stands, marks}
+use Rattle.format.specs.Table.{cellMap, cells, rowMark, row, rowMap}
+use Rattle.format.proofs.Lengths.{bytes-length, series-next}
 use Rattle.format.proofs.Same.{row-same}
 use Rattle.format.proofs.Sizes.{row-length}
-use Rattle.format.proofs.Marks.{stands-none, stands-most, stands-same, same-stands, marks-stands, marks-same}
+use Rattle.format.proofs.Marks.{stands-none, stands-pos, stands-most, stands-same, marks-stand}
+use Rattle.writer.specs.Outlines.{Counted}
+use Rattle.writer.specs.Places.{onto}
+use Rattle.writer.proofs.Places.{onto-between}
+use Rattle.writer.proofs.Puts.{number-present}
 
 -- row i of all cells, as it is lent
 abbrev pub part : List ℕ → ℕ → List ℕ
@@ -25,62 +30,53 @@ part-length all i e h = length-take-le (i * 16 + 16 - i * 16) (drop (i * 16) all
 part-cell : (all : List ℕ) (i j : ℕ) → j < 16 → getD (part all i) j 0 ≡ getD all (i * 16 + j) 0
 part-cell all i j h = getD-take (i * 16 + 16 - i * 16) (drop (i * 16) all) j 0 (omega arith) ∙ getD-drop (i * 16) all j 0
 
-pub part-map : (all : List ℕ) (i : ℕ) → cellMap (λ j. getD (part all i) j 0) ≡ cellMap (λ j. getD all (i * 16 + j) 0)
-unfolding cellMap
-part-map all i = marks-same 16 _ _ (part-cell all i)
-
-pub part-sum : (all : List ℕ) (i : ℕ) → sum 16 (λ j. stands (getD (part all i) j 0)) ≡ sum 16 (λ j. stands (getD all (i * 16 + j) 0))
-part-sum all i = sum-same 16 _ _ (λ j h. ap stands (part-cell all i j h))
-
 pub part-total : (all : List ℕ) (i : ℕ) → sum 16 (λ j. getD (part all i) j 0) ≡ sum 16 (λ j. getD all (i * 16 + j) 0)
 part-total all i = sum-same 16 _ _ (part-cell all i)
 
--- a row whose cells are all 0 has no bit in its cell map, and no cell that stands
-
-pub empty-map : (cell : ℕ → ℕ) → sum 16 cell ≡ 0 → cellMap cell ≡ 0
-unfolding cellMap
-empty-map cell e = same-stands (sum 16 cell) (marks 16 cell) (sym (marks-stands 16 cell)) e
-
-pub empty-cells : (cell : ℕ → ℕ) → sum 16 cell ≡ 0 → sum 16 (λ j. stands (cell j)) ≡ 0
-empty-cells cell e = omega (arith, sum-le 16 (λ j. stands (cell j)) cell (λ j h. stands-most (cell j)))
-
--- a row that is empty where its count is 0 stands where its count does
-pub count-stands : (count : ℕ) (cell : ℕ → ℕ) → (count ≡ 0 → sum 16 cell ≡ 0) → stands count ≡ stands (rowMark count cell)
-unfolding rowMark
-count-stands count cell h = stands-same count (count + sum 16 cell) (λ e. omega (arith, h e)) (λ e. omega arith)
-
--- a row stands where its count or its cell map does
-pub row-stands : (count : ℕ) (cell : ℕ → ℕ) → stands (count + cellMap cell) ≡ stands (rowMark count cell)
-unfolding cellMap rowMark
-row-stands count cell =
-    stands-same (count + marks 16 cell) (count + sum 16 cell)
-    (λ e. omega (arith, same-stands (marks 16 cell) (sum 16 cell) (marks-stands 16 cell) (omega arith)))
-    (λ e. omega (arith, same-stands (sum 16 cell) (marks 16 cell) (sym (marks-stands 16 cell)) (omega arith)))
-
--- one row more
-pub rows-next : (count : ℕ → ℕ) (cell : ℕ → ℕ → ℕ) (i bytes m n : ℕ) → bytes ≡ length (series i (λ k. row (count k) (cell k)))
-    → m ≡ stands (rowMark (count i) (cell i)) → n ≡ sum 16 (λ j. stands (cell i j))
-    → bytes + (4 * m + 4 * n) ≡ length (series (i + 1) (λ k. row (count k) (cell k)))
-rows-next count cell i bytes m n e a b =
-    let f : ℕ → List ℕ = λ k. row (count k) (cell k) in
-    rw (add-one, series-next) (omega (arith, length-append (series i f) (f i), row-length (count i) (cell i)))
-
--- the bytes of a row, from its count, its cell map and its cells
-pub row-written : (count map : ℕ) (cell : ℕ → ℕ) → map ≡ cellMap cell
-    → number (count + map) 2 count ++ number (count + map) 2 map ++ cells cell ≡ row count cell
-unfolding row
-row-written count map cell e =
-    let s : stands (count + map) ≡ stands (rowMark count cell) = rw e (row-stands count cell) in
-    rw (number-same (count + map) (rowMark count cell) 2 count s, number-same (count + map) (rowMark count cell) 2 map s, e)
-
--- a row whose count and cell map are 0 has no bytes
-pub row-absent : (count map : ℕ) (cell : ℕ → ℕ) → map ≡ cellMap cell → count + map ≡ 0 → row count cell ≡ []
-unfolding cellMap
-row-absent count map cell e z =
-    let absent : count + cellMap cell ≡ 0 = omega arith in
-    let mark : stands (rowMark count cell) ≡ 0 = sym (row-stands count cell) ∙ ap stands absent ∙ stands-none in
-    let empty : sum 16 cell ≡ 0 = same-stands (marks 16 cell) (sum 16 cell) (marks-stands 16 cell) (omega arith) in
-    drop-of-length-le (row count cell) {i = 0} (omega (arith, row-length count cell, mark, empty-cells cell empty))
-
 pub part-row : (count : ℕ) (all : List ℕ) (i : ℕ) → row count (λ j. getD (part all i) j 0) ≡ row count (λ j. getD all (i * 16 + j) 0)
 part-row count all i = row-same count count _ _ refl (part-cell all i)
+
+-- the bytes of one part more
+pub bytes-next : (f : ℕ → List ℕ) (i bytes n : ℕ) → bytes ≡ length (series i f) → n ≡ length (f i) → bytes + n ≡ length (series (i + 1) f)
+bytes-next f i bytes n e d = rw (add-one, series-next) (omega (arith, length-append (series i f) (f i)))
+
+-- the rows that stand are those whose counts do
+pub counts-map : (counts cells : List ℕ) → Counted counts cells
+    → marks 16 (λ i. getD counts i 0) ≡ rowMap (λ i. getD counts i 0) (λ i j. getD cells (i * 16 + j) 0)
+unfolding rowMap rowMark
+counts-map counts cells empty = marks-stand 16 _ _ (λ i h. stands-same _ _ (λ e. omega (arith, empty i h e)) (λ e. omega arith))
+
+module _ (count : ℕ) (cell : ℕ → ℕ) where
+  -- an empty row whose count is 0 has no bytes
+  pub row-absent : count ≡ 0 → sum 16 cell ≡ 0 → row count cell ≡ []
+  unfolding rowMark
+  row-absent none empty =
+      let mark : stands (count + sum 16 cell) ≡ 0 = ap stands (omega arith) ∙ stands-none in
+      drop-of-length-le (row count cell) {i = 0}
+      (omega (arith, row-length count cell, mark, sum-le 16 (λ j. stands (cell j)) cell (λ j h. stands-most (cell j))))
+
+  -- a row whose count isn't: count, cell map, cells
+  module _ (some : count ≡ 0 → ⊥) where
+    marked : rowMark count cell ≡ 0 → ⊥
+    unfolding rowMark
+    marked e = some (omega arith)
+
+    row-present : bytes 2 count ++ bytes 2 (cellMap cell) ++ cells cell ≡ row count cell
+    unfolding row
+    row-present = rw (number-present (rowMark count cell) 2 count marked, number-present (rowMark count cell) 2 (cellMap cell) marked)
+
+    pub present-cells : length (row count cell) ≡ 4 + length (cells cell)
+    present-cells = sym (ap length row-present) ∙ simp (length-append, bytes-length)
+
+    -- the cell map is put when the cells are
+    pub row-put : (l : List ℕ) (at : ℕ) → at + length (row count cell) ≤ length l
+        → onto (bytes 2 (cellMap cell)) (onto (cells cell) (onto (bytes 2 count) l at) (at + 4)) (at + 2) ≡ onto (row count cell) l at
+    row-put l at room =
+        let a = bytes-length 2 count in
+        let b = bytes-length 2 (cellMap cell) in
+        onto-between (bytes 2 count) (bytes 2 (cellMap cell)) (cells cell) l at (at + 2) (at + 4) (omega arith) (omega arith) (omega (arith, present-cells))
+        ∙ ap (λ x. onto x l at) row-present
+
+    pub present-size : length (row count cell) ≡ 4 + 4 * sum 16 (λ j. stands (cell j))
+    unfolding rowMark
+    present-size = row-length count cell ∙ rw (stands-pos (count + sum 16 cell) (omega arith))

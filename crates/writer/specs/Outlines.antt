@@ -1,5 +1,5 @@
--- What counts tell of cells, and the map and the size of a message, from what its fields come to.
-use Prim.Native.Nat.{ℕ, _+_, _*_, _<_}
+-- What counts tell of cells, and the size of a message, from what its fields come to.
+use Prim.Native.Nat.{ℕ, _+_, _*_, _≤_, _<_}
 use mathlib.Core.Path.{_≡_}
 use mathlib.Core.List.{List}
 use lib.ListN.{getD}
@@ -7,14 +7,17 @@ use Rattle.quorums.specs.Sum.{sum}
 use Rattle.config.specs.Cluster.{stampBytes}
 use Rattle.config.specs.declared.cluster.Config.{Config}
 use Rattle.format.specs.Bytes.{stands}
-use Rattle.format.specs.Table.{registerMark, fieldMap}
+use Rattle.format.specs.Table.{registerMark}
 use Rattle.replica.specs.declared.register.Register.{Register}
 use Rattle.message.specs.declared.envelope.Envelope.{Envelope}
-use Rattle.writer.specs.declared.outline.Outline.{Outline}
 
 -- every row whose count is 0 is empty, as in a ledger within bounds
 abbrev pub Counted : List ℕ → List ℕ → Type 0
 Counted counts cells = (i : ℕ) → i < 16 → getD counts i 0 ≡ 0 → sum 16 (λ j. getD cells (i * 16 + j) 0) ≡ 0
+
+-- every count from n on is 0, as in a ledger of n servers
+abbrev pub CountsBelow : ℕ → List ℕ → Type 0
+CountsBelow n counts = (i : ℕ) → n ≤ i → i < 16 → getD counts i 0 ≡ 0
 
 -- the size, where `rows` is the row map, and the rows have `bytes` bytes
 unfoldable pub sizeOf : Config → Envelope → Register → ℕ → ℕ → ℕ
@@ -25,10 +28,3 @@ sizeOf c e g rows bytes =
     + 2 * stands rows
     + bytes
     + 4 * stands (e .note)
-
-unfoldable pub outlineOf : Config → Envelope → Register → ℕ → ℕ → Outline
-outlineOf c e g rows bytes =
-    record {
-      map = fieldMap (e .desk) (e .round) (registerMark (g .stamp) (g .desk) (g .value .length)) rows (e .note);
-      bytes = sizeOf c e g rows bytes;
-    }

@@ -1,7 +1,6 @@
 // The call.
 use super::fault::fault;
-use super::outline::mark_rows;
-use super::outline::measure;
+use super::outline::narrow;
 use super::whole::fill;
 use config::Config;
 use config::Number;
@@ -76,7 +75,7 @@ fn write_judged<'a>(
     put_message(config, envelope, counts, cells, register, out, at)
 }
 
-// What a party sends of what it holds, lent in the same way: 1 where the reader would refuse the message, by whatever number; else it is written.
+// What a party sends of what it holds, lent in the same way: a message that the reader would refuse, by whatever number, is 1.
 pub fn send_lent<'a>(
     config: Config,
     envelope: Envelope,
@@ -95,7 +94,7 @@ pub fn send_lent<'a>(
     put_message(config, envelope, counts, cells, register, out, at)
 }
 
-// A message that the reader takes, where it fits.
+// Writes a message that the reader takes, or refuses it where it does not fit (13).
 fn put_message<'a>(
     config: Config,
     envelope: Envelope,
@@ -108,23 +107,12 @@ fn put_message<'a>(
     requires { ⌜ (length (now counts) ≡ 16) × (length (now cells) ≡ 256) × (faultOf config envelope (replicaOf (now counts) (now cells) register) ≡ 0) ⌝ }
     ensures { λ r. ⌜ (r ≡ place (messageOf config envelope (replicaOf (now (counts .entry)) (now (cells .entry)) register)) (now (out .entry)) at .answer) × (now (out .exit) ≡ place (messageOf config envelope (replicaOf (now (counts .entry)) (now (cells .entry)) register)) (now (out .entry)) at .out) ⌝ }
 {
-    let rows = mark_rows(counts, cells);
-    let plan = measure(config, envelope, register, rows.map, rows.bytes);
     if out.len() < at {
         return Number::Refused(Refusal::Narrow);
     }
-    if ((out.len() - at) as u64) < plan.bytes {
+    if narrow(config, envelope, counts, cells, register, out.len() - at) {
         return Number::Refused(Refusal::Narrow);
     }
-    let written = fill(
-        &mut out[at..],
-        config,
-        envelope,
-        register,
-        counts,
-        cells,
-        plan.map,
-        rows,
-    );
+    let written = fill(&mut out[at..], config, envelope, register, counts, cells);
     Number::Value((at + written) as u64)
 }

@@ -1,13 +1,14 @@
--- `put_cells` meets its contract: after j turns the first j cells are written.
-use Prim.Native.Nat.{ℕ, _-_, _≤_}
+-- `put_cells` meets its contract: after j turns the first j cells are written, and in the map.
+use Prim.Native.Nat.{ℕ, _-_}
 use native.Mathlib.Omega.{arith}
 use mathlib.Core.Path.{_≡_, refl}
 use mathlib.Core.List.{List}
 use borrow.Author.Needs.{needs}
 use lib.ListN.{length, getD}
 use Rattle.format.specs.Bytes.{number}
-use Rattle.format.specs.Table.{cells}
+use Rattle.format.specs.Table.{cellMap, cells}
 use Rattle.writer.proofs.Places.{Written, written-none, written-length, written-room, written-next, written-all}
+use Rattle.writer.proofs.Outlines.{Marked, marked-start, marked-next, marked-small, marked-all}
 use Rattle.writer.proofs.field.put_cells.Statement.{statement}
 use Rattle.writer.proofs.field.put_cells.Tie as tie
 
@@ -16,30 +17,36 @@ abbrev cellAt : List ℕ → ℕ → List ℕ
 cellAt row j = number (getD row j 0) 4 (getD row j 0)
 
 abbrev Inv-loop : tie.InvT-loop
-Inv-loop out₀ at row p₀ j₀ out p j = (length row ≡ 16) × (j ≤ 16) × Written j 16 (cellAt row) out₀ out at p
+Inv-loop out₀ at row p₀ map₀ power₀ j₀ out p map power j =
+    (length row ≡ 16) × Written j 16 (cellAt row) out₀ out at p × Marked j (λ k. getD row k 0) map power
 
 abbrev μ-loop : tie.MeasureT-loop
-μ-loop out₀ at row p₀ j₀ out p j = 16 - j
+μ-loop out₀ at row p₀ map₀ power₀ j₀ out p map power j = 16 - j
 
 loop-holds : tie.Need-loop-holds Inv-loop μ-loop
 unfolding cells
-loop-holds c = (c .before .before .pre .0, omega arith, written-none 16 _ _ _ (c .before .before .pre .1))
+loop-holds c = let pre = c .before .before .pre in (pre .0, written-none 16 _ _ _ (pre .1), marked-start _)
 
-mul-x : tie.Need-mul-x Inv-loop μ-loop
-mul-x c = search needs
+mul-put-cell : tie.Need-mul-put-cell Inv-loop μ-loop
+mul-put-cell c = search needs
 
-shared-slice-read-x : tie.Need-shared-slice-read-x Inv-loop μ-loop
-shared-slice-read-x c = search needs
+shared-slice-read-put-cell : tie.Need-shared-slice-read-put-cell Inv-loop μ-loop
+shared-slice-read-put-cell c = search needs
 
-cast-x : tie.Need-cast-x Inv-loop μ-loop
-cast-x c = omega (arith, c .shared-slice-known2 .given (c .before .before .loop .j))
+cast-put-cell : tie.Need-cast-put-cell Inv-loop μ-loop
+cast-put-cell c = omega (arith, c .shared-slice-known2 .given (c .before .before .before .loop .j))
 
 -- a turn, seen from the call in it
-abbrev turn : tie.After-put-number-arg Inv-loop μ-loop → tie.In-loop Inv-loop μ-loop
+abbrev turn : tie.After-shared-slice-known2 Inv-loop μ-loop → tie.In-loop Inv-loop μ-loop
 turn c = c .before .before
 
-put-number-requires : tie.Need-put-number-requires Inv-loop μ-loop
-put-number-requires c κs = written-room (turn c .before .loop .inv .2) (turn c .loop-test .taken)
+put-cell-requires : tie.Need-put-cell-requires Inv-loop μ-loop
+put-cell-requires c κs =
+    let inv = turn c .before .loop .inv in
+    (written-room (inv .1) (turn c .loop-test .taken), omega (arith, marked-small (inv .2) 1 (omega arith)))
+
+mul-power : tie.Need-mul-power Inv-loop μ-loop
+mul-power c = omega (arith, marked-small (turn (c .before .before .before) .before .loop .inv .2) 0 (omega arith))
 
 add-j : tie.Need-add-j Inv-loop μ-loop
 add-j c = search needs
@@ -50,15 +57,20 @@ loop-less c = search needs
 loop-again : tie.Need-loop-again Inv-loop μ-loop
 loop-again c =
     let put = c .before .before in
-    let inv = turn (put .before) .before .loop .inv in
-    (inv .0, omega arith, written-next (inv .2) (put .put-number .ensures))
+    let e = put .put-cell .ensures in
+    let t = turn (put .before) in
+    let inv = t .before .loop .inv in
+    (inv .0, written-next (inv .1) (e .0, e .1), rw (e .2) (marked-next (inv .2) (t .loop-test .taken) _ refl))
 
 same-length : tie.Need-same-length Inv-loop μ-loop
-same-length c = written-length (c .before .loop .inv .2) (c .before .loop .inv .1)
+same-length c = let inv = c .before .loop .inv in written-length (inv .1) (inv .2 .within)
 
 returns : tie.Need-returns Inv-loop μ-loop
-unfolding cells
-returns c = written-all (c .before .loop .inv .2) (omega arith) refl
+unfolding cells cellMap
+returns c =
+    let inv = c .before .loop .inv in
+    let all = written-all (inv .1) (omega (arith, inv .2 .within)) refl in
+    (all .0, all .1, marked-all (inv .2) (c .loop-test .left))
 
 pub put-cells-spec : {M : Type 1} → statement M
 put-cells-spec =
@@ -67,10 +79,11 @@ put-cells-spec =
     Inv-loop
     μ-loop
     loop-holds
-    mul-x
-    shared-slice-read-x
-    cast-x
-    put-number-requires
+    mul-put-cell
+    shared-slice-read-put-cell
+    cast-put-cell
+    put-cell-requires
+    mul-power
     add-j
     loop-less
     loop-again

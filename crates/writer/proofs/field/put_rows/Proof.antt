@@ -1,15 +1,14 @@
--- `put_rows` meets its contract: after i turns the first i rows are written.
-use Prim.Native.Nat.{ℕ, _+_, _*_, _-_, _≤_}
+-- `put_rows` meets its contract: after i turns the first i rows are written, and those from n on have no bytes.
+use Prim.Native.Nat.{ℕ, _+_, _*_, _-_, _≤_, _<_}
 use native.Mathlib.Omega.{arith}
-use mathlib.Core.Path.{_≡_, refl, sym, ap, _∙_}
-use mathlib.Core.List.{List}
+use mathlib.Core.Path.{_≡_, refl, _∙_}
+use mathlib.Core.List.{List, []}
 use borrow.Author.Needs.{needs}
 use denote.Ref.{now}
-use lib.ListN.{length, getD}
-use Rattle.ledger.proofs.Tables.{table-length, table-at}
-use Rattle.format.specs.Table.{cellMap, row, rows}
-use Rattle.writer.proofs.Places.{Written, written-none, written-length, written-room, written-next, written-all}
-use Rattle.writer.proofs.Rows.{part, part-length, part-map, part-row}
+use lib.ListN.{getD}
+use Rattle.format.specs.Table.{row, rows}
+use Rattle.writer.proofs.Places.{Written, written-none, written-length, written-room, written-next, written-rest, written-all}
+use Rattle.writer.proofs.Rows.{part, part-length, part-total, part-row, row-absent}
 use Rattle.writer.proofs.field.put_rows.Statement.{statement}
 use Rattle.writer.proofs.field.put_rows.Tie as tie
 
@@ -18,30 +17,21 @@ abbrev rowAt : List ℕ → List ℕ → ℕ → List ℕ
 rowAt counts cells i = row (getD counts i 0) (λ j. getD cells (i * 16 + j) 0)
 
 abbrev Inv-loop : tie.InvT-loop
-Inv-loop out₀ at counts cells maps p₀ i₀ out p i = (i ≤ 16) × Written i 16 (rowAt counts cells) out₀ out at p
+Inv-loop out₀ at counts cells n p₀ i₀ out p i = (i ≤ n) × (n ≤ 16) × Written i 16 (rowAt counts cells) out₀ out at p
 
 abbrev μ-loop : tie.MeasureT-loop
-μ-loop out₀ at counts cells maps p₀ i₀ out p i = 16 - i
+μ-loop out₀ at counts cells n p₀ i₀ out p i = n - i
 
--- the function's start, seen from the loop and from a turn
+-- the function's start, seen from the loop and from a turn; a turn, seen from the call in it
 
-abbrev entry : tie.After-shared-slice-known3 Inv-loop μ-loop → tie.Start Inv-loop μ-loop
-entry c = c .before .before .before .before
+abbrev entry : tie.After-shared-slice-known2 Inv-loop μ-loop → tie.Start Inv-loop μ-loop
+entry c = c .before .before .before
 
 abbrev start : tie.In-loop Inv-loop μ-loop → tie.Start Inv-loop μ-loop
 start c = entry (c .before .before)
 
--- a turn, seen from its cell map and from the call in it
-
-abbrev mapped : tie.After-shared-slice-known5 Inv-loop μ-loop → tie.In-loop Inv-loop μ-loop
-mapped c = c .before .before .before
-
 abbrev turn : tie.After-put-row-arg2 Inv-loop μ-loop → tie.In-loop Inv-loop μ-loop
-turn c = c .before .before .before .before
-
--- there are 16 cell maps
-maps-length : (s : tie.Start Inv-loop μ-loop) → length (now (s .args .maps)) ≡ 16
-maps-length s = ap length (s .pre .2) ∙ table-length 16 _
+turn c = c .before .before .before
 
 -- row i, as it is lent, has the bytes of row i
 row-is : (c : tie.In-loop Inv-loop μ-loop) →
@@ -50,9 +40,13 @@ row-is : (c : tie.In-loop Inv-loop μ-loop) →
     row (getD (now (a .counts)) i 0) (λ j. getD (part (now (a .cells)) i) j 0) ≡ rowAt (now (a .counts)) (now (a .cells)) i
 row-is c = part-row _ (now (start c .args .cells)) (c .before .loop .i)
 
+-- a row from n on has none
+row-none : (s : tie.Start Inv-loop μ-loop) (k : ℕ) → s .args .n ≤ k → k < 16 → rowAt (now (s .args .counts)) (now (s .args .cells)) k ≡ []
+row-none s k l h = let none = s .pre .4 k l h in row-absent _ _ none (s .pre .2 k h none)
+
 loop-holds : tie.Need-loop-holds Inv-loop μ-loop
 unfolding rows
-loop-holds c = (omega arith, written-none 16 _ _ _ (entry c .pre .3))
+loop-holds c = (omega arith, entry c .pre .3, written-none 16 _ _ _ (entry c .pre .5))
 
 mul-a : tie.Need-mul-a Inv-loop μ-loop
 mul-a c = search needs
@@ -67,19 +61,10 @@ shared-slice-read-put-row : tie.Need-shared-slice-read-put-row Inv-loop μ-loop
 shared-slice-read-put-row c = search needs
 
 cast-put-row : tie.Need-cast-put-row Inv-loop μ-loop
-cast-put-row c = omega (arith, c .shared-slice-known4 .given (c .before .before .before .loop .i))
+cast-put-row c = omega (arith, c .shared-slice-known3 .given (c .before .before .before .loop .i))
 
 mul-put-row-2 : tie.Need-mul-put-row-2 Inv-loop μ-loop
 mul-put-row-2 c = search needs
-
-shared-slice-read-put-row-2 : tie.Need-shared-slice-read-put-row-2 Inv-loop μ-loop
-shared-slice-read-put-row-2 c = omega (arith, maps-length (start (c .before .before .before)))
-
-cast-put-row-2 : tie.Need-cast-put-row-2 Inv-loop μ-loop
-cast-put-row-2 c = omega (arith, c .shared-slice-known5 .given (mapped c .before .loop .i))
-
-mul-put-row-3 : tie.Need-mul-put-row-3 Inv-loop μ-loop
-mul-put-row-3 c = search needs
 
 sub-put-row : tie.Need-sub-put-row Inv-loop μ-loop
 sub-put-row c = search needs
@@ -88,21 +73,17 @@ part-put-row-start : tie.Need-part-put-row-start Inv-loop μ-loop
 part-put-row-start c = search needs
 
 part-put-row-end : tie.Need-part-put-row-end Inv-loop μ-loop
-part-put-row-end c = omega (arith, start (c .before .before .before) .pre .1)
+part-put-row-end c = omega (arith, start (c .before .before) .pre .1)
 
 put-row-requires : tie.Need-put-row-requires Inv-loop μ-loop
 put-row-requires c κs =
     let s = start (turn c) in
     let l = turn c .before .loop in
-    let h = turn c .loop-test .taken in
     let all = now (s .args .cells) in
-    let map-is : getD (now (s .args .maps)) (l .i) 0 ≡ cellMap (λ j. getD all (l .i * 16 + j) 0) =
-    ap (λ (t : List ℕ). getD t (l .i) 0) (s .pre .2) ∙ table-at 16 _ (l .i) h in (
+    let h : l .i < 16 = omega (arith, turn c .loop-test .taken, l .inv .1) in (
       part-length all (l .i) (s .pre .1) h,
-      omega (arith, c .before .before .shared-slice-known4 .given (l .i)),
-      omega (arith, c .before .shared-slice-known5 .given (l .i)),
-      map-is ∙ sym (part-map all (l .i)),
-      rw (row-is (turn c)) (written-room (l .inv .1) h),
+      λ e. part-total all (l .i) ∙ s .pre .2 (l .i) h e,
+      rw (row-is (turn c)) (written-room (l .inv .2) h),
     )
 
 add-i : tie.Need-add-i Inv-loop μ-loop
@@ -115,14 +96,18 @@ loop-again : tie.Need-loop-again Inv-loop μ-loop
 loop-again c =
     let put = c .before .before in
     let t = turn (put .before) in
-    (omega arith, written-next (t .before .loop .inv .1) (rw (row-is t) at (put .put-row .ensures)))
+    let inv = t .before .loop .inv in
+    (omega arith, inv .1, written-next (inv .2) (rw (row-is t) at (put .put-row .ensures)))
 
 same-length : tie.Need-same-length Inv-loop μ-loop
-same-length c = written-length (c .before .loop .inv .1) (c .before .loop .inv .0)
+same-length c = written-length (c .before .loop .inv .2) (omega arith)
 
 returns : tie.Need-returns Inv-loop μ-loop
 unfolding rows
-returns c = written-all (c .before .loop .inv .1) (omega arith) refl
+returns c =
+    let inv = c .before .loop .inv in
+    let none = row-none (entry (c .before .before)) in
+    written-all (written-rest (inv .2) (omega arith) (λ k l h. none k (omega arith) h)) refl refl
 
 pub put-rows-spec : {M : Type 1} → statement M
 put-rows-spec =
@@ -137,9 +122,6 @@ put-rows-spec =
     shared-slice-read-put-row
     cast-put-row
     mul-put-row-2
-    shared-slice-read-put-row-2
-    cast-put-row-2
-    mul-put-row-3
     sub-put-row
     part-put-row-start
     part-put-row-end

@@ -1,12 +1,11 @@
--- `measure` meets its contract: the map is the sum of its bits.
+-- `measure` meets its contract: the sizes of what stands add up to the message's.
 use Prim.Native.Nat.{_+_, _*_, _≤_}
 use native.Mathlib.Omega.{arith}
 use mathlib.Core.Path.{_≡_}
 use borrow.Author.Needs.{needs}
 use Rattle.config.specs.Cluster.{stampBytes}
 use Rattle.format.specs.Table.{registerMark}
-use Rattle.writer.specs.Outlines.{outlineOf, sizeOf}
-use Rattle.writer.proofs.Outlines.{map-sum}
+use Rattle.writer.specs.Outlines.{sizeOf}
 use Rattle.writer.proofs.outline.measure.Statement.{statement}
 use Rattle.writer.proofs.outline.measure.Tie as tie
 
@@ -58,89 +57,63 @@ cast-mark-5 c = search needs
 mark-requires-5 : tie.Need-mark-requires-5
 mark-requires-5 c κs = search needs
 
-mul-t15 : tie.Need-mul-t15
-mul-t15 c = search needs
+mul-result : tie.Need-mul-result
+mul-result c = search needs
 
-add-t12 : tie.Need-add-t12
-add-t12 c = search needs
+add-result : tie.Need-add-result
+add-result c = search needs
 
-mul-t14 : tie.Need-mul-t14
-mul-t14 c = search needs
+mul-result-2 : tie.Need-mul-result-2
+mul-result-2 c = search needs
 
-add-t13 : tie.Need-add-t13
-add-t13 c = search needs
-
-mul-t16 : tie.Need-mul-t16
-mul-t16 c = search needs
-
-add-t17 : tie.Need-add-t17
-add-t17 c = search needs
-
-mul-t18 : tie.Need-mul-t18
-mul-t18 c = search needs
-
-add-t19 : tie.Need-add-t19
-add-t19 c = search needs
-
-mul-t20 : tie.Need-mul-t20
-mul-t20 c = search needs
-
-add-t21 : tie.Need-add-t21
-add-t21 c = search needs
-
-mul-t22 : tie.Need-mul-t22
-mul-t22 c = search needs
-
-add-t23 : tie.Need-add-t23
-add-t23 c = search needs
-
-mul-t24 : tie.Need-mul-t24
-mul-t24 c = search needs
-
-add-t25 : tie.Need-add-t25
-add-t25 c = search needs
+add-result-2 : tie.Need-add-result-2
+add-result-2 c = search needs
 
 stamp-bytes-requires : tie.Need-stamp-bytes-requires
 stamp-bytes-requires c κs = search needs
 
-add-t27 : tie.Need-add-t27
-add-t27 c = omega (arith, stamp c)
+add-result-3 : tie.Need-add-result-3
+add-result-3 c = omega (arith, stamp c)
 
-mul-t28 : tie.Need-mul-t28
-mul-t28 c = omega (arith, stamp c)
+mul-result-3 : tie.Need-mul-result-3
+mul-result-3 c = omega (arith, stamp c)
 
-add-t29 : tie.Need-add-t29
-add-t29 c = omega (arith, stamp c)
+add-result-4 : tie.Need-add-result-4
+add-result-4 c = omega (arith, stamp c)
 
-add-t30 : tie.Need-add-t30
-add-t30 c = omega (arith, stamp c)
+add-result-5 : tie.Need-add-result-5
+add-result-5 c = omega (arith, stamp c)
 
-mul-t31 : tie.Need-mul-t31
-mul-t31 c = search needs
+mul-result-4 : tie.Need-mul-result-4
+mul-result-4 c = search needs
 
-add-t32 : tie.Need-add-t32
-add-t32 c = omega (arith, stamp c)
+add-result-6 : tie.Need-add-result-6
+add-result-6 c = omega (arith, stamp c)
 
-add-t33 : tie.Need-add-t33
-add-t33 c = omega (arith, stamp c)
+add-result-7 : tie.Need-add-result-7
+add-result-7 c = omega (arith, stamp c)
 
-mul-t34 : tie.Need-mul-t34
-mul-t34 c = search needs
+mul-result-5 : tie.Need-mul-result-5
+mul-result-5 c = search needs
 
-add-t35 : tie.Need-add-t35
-add-t35 c = omega (arith, stamp c)
+add-result-8 : tie.Need-add-result-8
+add-result-8 c = omega (arith, stamp c)
 
 returns : tie.Need-returns
-unfolding outlineOf sizeOf registerMark
+unfolding sizeOf registerMark
 returns c =
     let note = c .before in
     let rows = note .before .before in
     let register = rows .before in
     let round = register .before .before .before in
-    let desk = round .before .before in (
-      rw (map-sum, desk .mark .ensures .0, round .mark2 .ensures .0, register .mark3 .ensures .0, rows .mark4 .ensures .0, note .mark5 .ensures .0, c .stamp-bytes .ensures),
-      omega arith,
-      omega (arith, stamp c),
+    let desk = round .before .before in
+    rw (
+      desk .mark .ensures .0,
+      round .mark2 .ensures .0,
+      register .mark3 .ensures .0,
+      rows .mark4 .ensures .0,
+      note .mark5 .ensures .0,
+      c .stamp-bytes .ensures,
     )
 
 pub measure-spec : {M : Type 1} → statement M
@@ -160,28 +133,18 @@ measure-spec =
     mark-requires-4
     cast-mark-5
     mark-requires-5
-    mul-t15
-    add-t12
-    mul-t14
-    add-t13
-    mul-t16
-    add-t17
-    mul-t18
-    add-t19
-    mul-t20
-    add-t21
-    mul-t22
-    add-t23
-    mul-t24
-    add-t25
+    mul-result
+    add-result
+    mul-result-2
+    add-result-2
     stamp-bytes-requires
-    add-t27
-    mul-t28
-    add-t29
-    add-t30
-    mul-t31
-    add-t32
-    add-t33
-    mul-t34
-    add-t35
+    add-result-3
+    mul-result-3
+    add-result-4
+    add-result-5
+    mul-result-4
+    add-result-6
+    add-result-7
+    mul-result-5
+    add-result-8
     returns)

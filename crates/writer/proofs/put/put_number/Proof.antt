@@ -1,14 +1,14 @@
 -- `put_number` meets its contract: a number that stands is its bytes, and one that does not is none.
 use Prim.Native.Nat.{_+_, _≤_}
 use native.Mathlib.Omega.{arith}
-use mathlib.Core.Path.{_≡_, sym, ap}
+use mathlib.Core.Path.{_≡_, sym}
 use mathlib.Core.List.{[]}
 use lib.ListN.{length}
 use denote.Ref.{now}
 use Rattle.format.specs.Bytes.{bytes, number}
 use Rattle.format.proofs.Lengths.{bytes-length}
 use Rattle.writer.proofs.Places.{onto-nothing}
-use Rattle.writer.proofs.Puts.{number-absent, number-present}
+use Rattle.writer.proofs.Puts.{number-absent, number-present, present-length}
 use borrow.Author.Needs.{needs}
 use Rattle.writer.proofs.put.put_number.Statement.{statement}
 use Rattle.writer.proofs.put.put_number.Tie as tie
@@ -22,7 +22,7 @@ stands : (c : tie.Else1) → let a = start c .args in number (a .stands) (a .wid
 stands c = number-present _ _ _ (c .if1 .left)
 
 room : (c : tie.Else1) → let a = start c .args in a .at + a .width ≤ length (now (a .out))
-room c = let a = start c .args in omega (arith, start c .pre, ap length (stands c), bytes-length (a .width) (a .x))
+room c = let a = start c .args in omega (arith, start c .pre, present-length (a .stands) (a .width) (a .x) (c .if1 .left))
 
 abbrev test : tie.After-slice-known2 → tie.Else1
 test c = c .before .before .before .before
