@@ -5,16 +5,18 @@ use mathlib.Core.Path.{_≡_, refl, sym, ap, _∙_}
 use mathlib.Core.Bool.{Bool, true, false, cond}
 use mathlib.Core.List.{List}
 use borrow.Author.Tests.{lt-ltb}
+use Rattle.config.specs.Cluster.{serverOf}
 use Rattle.config.specs.Refusals.{refusal}
 use Rattle.config.specs.declared.answer.Verdict.{Verdict}
 use Rattle.config.specs.declared.answer.Number.{Number}
 use Rattle.config.proofs.Clusters.{server-valid, server-small, value-not-refused}
 use Rattle.message.specs.Cursors.{within}
-use Rattle.message.specs.Faults.{kindFits, lawful}
+use Rattle.message.specs.Faults.{kindFits, lawful, sendOf}
 use Rattle.message.specs.Envelopes.{trimmedReplica, Typed as TypedEnvelope}
-use Rattle.message.specs.Answers.{writeOf, Written, place, between, receiveOf}
+use Rattle.message.specs.Answers.{Written, place, between, receiveOf}
 use Rattle.message.proofs.Lawful.{told-lawful}
-use Rattle.message.proofs.Envelopes.{write-placed, received-back}
+use Rattle.message.proofs.Found.{sends-held}
+use Rattle.message.proofs.Envelopes.{received-back}
 use Rattle.message.proofs.Placed.{placed-message}
 use Rattle.server.specs.declared.record.Server.{Server}
 use Rattle.server.specs.Servers.{fits, Typed}
@@ -22,16 +24,22 @@ use Rattle.server.specs.Shares.{shareEnvelope, shareMessage, shareOf}
 use Rattle.server.proofs.Servers.{fits-told}
 
 -- the kind and the sender stand, and nothing else
-pub share-lawful : (s : Server) → fits s ≡ true → lawful (s .config) (shareEnvelope s) ≡ true
+share-lawful : (s : Server) → serverOf (s .config) (s .number) ≡ true → lawful (s .config) (shareEnvelope s) ≡ true
 unfolding within kindFits
-share-lawful s f =
+share-lawful s o =
     told-lawful (s .config) (shareEnvelope s) (record {
       kind-good = refl;
       fields-good = refl;
-      server-good = lt-ltb _ _ (server-valid (s .config) (s .number) (fits-told s f .server-in) .1);
+      server-good = lt-ltb _ _ (server-valid (s .config) (s .number) o .1);
     })
 
-pub share-typed : (s : Server) → fits s ≡ true → TypedEnvelope (shareEnvelope s)
+-- what a server sends of what it holds is the share
+pub share-sends : (s : Server) → serverOf (s .config) (s .number) ≡ true → (out : List ℕ) (at : ℕ)
+    → sendOf (s .config) (shareEnvelope s) (s .replica) out at ≡ shareOf s out at
+unfolding shareOf fits
+share-sends s o out at = rw o (sends-held (s .config) (shareEnvelope s) (s .replica) (share-lawful s o) out at)
+
+share-typed : (s : Server) → fits s ≡ true → TypedEnvelope (shareEnvelope s)
 share-typed s f = record {
   kind-fits = omega arith;
   server-fits = omega (arith, server-small (s .config) (s .number) (fits-told s f .server-in));
@@ -41,18 +49,11 @@ share-typed s f = record {
 }
 
 module _ (s : Server) (t : Typed s) (f : fits s ≡ true) where
-  -- what the writer gives is the share
-  pub share-sent : (out : List ℕ) (at : ℕ) → writeOf (s .config) (shareEnvelope s) (s .replica) out at ≡ shareOf s out at
-  unfolding shareOf
-  share-sent out at =
-      rw f
-      (write-placed (s .config) (shareEnvelope s) (s .replica) (share-typed s f) (t .replica-typed) (share-lawful s f) (fits-told s f .replica-fits) out at)
-
-  -- and it reads back to its sender and what that holds, with zeros after the bytes of the value
+  -- a share reads back to its sender and what that holds, with zeros after the bytes of the value
   pub share-back : receiveOf (s .config) (shareMessage s)
       ≡ record { verdict = Verdict.Accepted; envelope = shareEnvelope s; replica = trimmedReplica (s .replica) }
   share-back =
-      received-back (s .config) (shareEnvelope s) (s .replica) (share-typed s f) (t .replica-typed) (share-lawful s f) (fits-told s f .replica-fits)
+      received-back (s .config) (shareEnvelope s) (s .replica) (share-typed s f) (t .replica-typed) (share-lawful s (fits-told s f .server-in)) (fits-told s f .replica-fits)
 
 -- a share that is accepted is one of a server that fits, and stands in the buffer
 accepted-told : (s : Server) (out : List ℕ) (at next : ℕ) → shareOf s out at .answer ≡ Number.Value next

@@ -2,6 +2,7 @@
 use Prim.Native.Nat.{ℕ, _≤_, _<_}
 use mathlib.Core.Path.{_≡_, refl}
 use mathlib.Core.Bool.{Bool, true, false, cond, false≢true}
+use mathlib.Core.List.{List}
 use borrow.Author.Tests.{lt-ltb, le-ltb, ltb-true}
 use lib.Dec.{ltb}
 use Rattle.config.specs.Cluster.{validOf, serverOf}
@@ -21,6 +22,7 @@ use Rattle.replica.proofs.Replicas.{Fits as Holds, fits-told as holds-told, tol
 use Rattle.server.specs.declared.record.Server.{Server}
 use Rattle.server.specs.declared.record.ServerAnswer.{ServerAnswer}
 use Rattle.server.specs.Servers.{fits, holding, accepted, refused, Typed}
+use Rattle.server.specs.Parts.{serverOf as serverIn}
 use Rattle.server.specs.Transfers.{gave, giveOf, transferOf}
 use Rattle.server.proofs.Servers.{fits-told, told-fits}
 
@@ -102,6 +104,18 @@ transfer-cases P s j d done left =
 pub transfer-refused : (s : Server) (j d : ℕ) (k : Refusal) → transferOf s j d .verdict ≡ Verdict.Refused k → transferOf s j d .server ≡ s
 transfer-refused s j d k =
     transfer-cases (λ r. r .verdict ≡ Verdict.Refused k → r .server ≡ s) s j d (λ e g t. accepted-not-refused k t) (λ r t. refl)
+
+-- a transfer changes nothing but the ledger
+pub transfer-ledger : (s : Server) (j d : ℕ) (v : Verdict) (counts cells : List ℕ) → v ≡ transferOf s j d .verdict
+    → counts ≡ transferOf s j d .server .replica .ledger .counts
+    → cells ≡ transferOf s j d .server .replica .ledger .cells
+    → record { verdict = v; server = serverIn (s .config) (s .number) counts cells (s .replica .register) } ≡ transferOf s j d
+transfer-ledger s j d v counts cells p q r =
+    transfer-cases
+    (λ x.
+    v ≡ x .verdict → counts ≡ x .server .replica .ledger .counts → cells ≡ x .server .replica .ledger .cells
+    → record { verdict = v; server = serverIn (s .config) (s .number) counts cells (s .replica .register) } ≡ x)
+    s j d (λ e g a b c. rw (a, b, c) refl) (λ k a b c. rw (a, b, c) refl) p q r
 
 -- ---- a transfer is `add` on the server's ledger
 

@@ -7,3 +7,5 @@ mod transfer;
 pub use record::Server;
 pub use record::ServerAnswer;
 pub use serve::Served;
+pub use share::share_in;
+pub use transfer::transfer_in;

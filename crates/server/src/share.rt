@@ -1,12 +1,14 @@
 // A server tells what it holds (paper 01, "Server": Share).
 use super::record::Server;
-use super::record::fits_in;
+use config::Config;
 use config::Number;
 use config::Refusal;
 use message::Envelope;
 use message::SHARE;
-use writer::write_lent;
+use replica::Register;
+use writer::send_lent;
 ghost use mathlib.Core.Path.{_≡_};
+ghost use Rattle.server.specs.Parts.{serverOf as serverIn};
 ghost use Rattle.server.specs.Shares.{shareOf};
 
 impl Server {
@@ -15,26 +17,9 @@ impl Server {
         ensures { λ r. ⌜ (r ≡ shareOf self (now (out .entry)) at .answer) × (now (out .exit) ≡ shareOf self (now (out .entry)) at .out) ⌝ }
     {
         let held = self.replica.register;
-        if !fits_in(
+        share_in(
             self.config,
             self.number,
-            &self.replica.ledger.counts,
-            &self.replica.ledger.cells,
-            held,
-        ) {
-            return Number::Refused(Refusal::BadHouse);
-        }
-        let config = self.config;
-        let envelope = Envelope {
-            kind: SHARE,
-            server: self.number as u8,
-            desk: 0,
-            round: 0,
-            note: 0,
-        };
-        write_lent(
-            config,
-            envelope,
             &self.replica.ledger.counts,
             &self.replica.ledger.cells,
             held,
@@ -42,4 +27,29 @@ impl Server {
             at,
         )
     }
+}
+
+// Share on the parts of a record, of which the ledger is lent as its counts and cells. The writer tests what is held as it writes.
+pub fn share_in<'a>(
+    config: Config,
+    number: u64,
+    counts: &'a [u16; 16],
+    cells: &'a [u32; 256],
+    register: Register,
+    out: &mut [u8],
+    at: usize,
+) -> Number
+    ensures { λ r. ⌜ (r ≡ shareOf (serverIn config number (now (counts .entry)) (now (cells .entry)) register) (now (out .entry)) at .answer) × (now (out .exit) ≡ shareOf (serverIn config number (now (counts .entry)) (now (cells .entry)) register) (now (out .entry)) at .out) ⌝ }
+{
+    if !config.has(number) {
+        return Number::Refused(Refusal::BadHouse);
+    }
+    let envelope = Envelope {
+        kind: SHARE,
+        server: number as u8,
+        desk: 0,
+        round: 0,
+        note: 0,
+    };
+    send_lent(config, envelope, counts, cells, register, out, at)
 }
