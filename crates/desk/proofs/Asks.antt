@@ -1,4 +1,5 @@
--- A desk that passes the record test, with an operation that runs, writes a request to each server that the server's reader takes, and finds again.
+-- A desk that passes the record test, with an operation that runs, writes a request to each server that the server's reader takes, and finds again. The
+-- envelope is lawful by what of the test is not about the pair, so the pair may be tested by the writer.
 use Prim.Native.Nat.{ℕ, _≤_, _<_}
 use native.Mathlib.Omega.{arith}
 use mathlib.Core.Path.{_≡_, refl, sym, ap, _∙_}

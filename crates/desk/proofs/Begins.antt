@@ -1,8 +1,9 @@
 -- Begin and drop keep a desk one that passes the record test, and one that a call can have. A refusal leaves it as it was; after an accepted begin the
--- operation runs, and after an accepted drop there is none.
+-- operation runs, and after an accepted drop there is none. Neither changes anything but the round and the operation, so that a call on the parts of a
+-- desk hands back those.
 use Prim.Native.Nat.{ℕ, suc, _≤_, _<_}
 use native.Mathlib.Omega.{arith}
-use mathlib.Core.Path.{_≡_, refl, sym, ap, ap₂, _∙_}
+use mathlib.Core.Path.{_≡_, refl, sym, ap, _∙_}
 use mathlib.Core.Bool.{Bool, true, false, cond}
 use mathlib.Core.List.{List}
 use borrow.Author.Tests.{eqb-true, leb-true, ltb-true, lt-leb, le-leb, eq-eqb}

@@ -25,7 +25,7 @@ unfoldable pub fits : Desk → Bool
 fits x =
     cond (numberLawful (x .number)) (cond (fitsReplica (x .config) (x .replica)) (fitsOperation (x .config) (x .round) (x .operation)) false) false
 
--- What of that test is about neither what the desk holds nor its sheet: the number, n and f, and the operation.
+-- What of that test is not about the pair: the number, n and f, and the operation.
 unfoldable pub sound : Config → ℕ → ℕ → Operation → Bool
 sound c d round o = cond (numberLawful d) (cond (validOf c) (fitsOperation c round o) false) false
 

@@ -1,5 +1,4 @@
 -- `may_begin` meets its contract: each test has its own answer.
-use Prim.Native.Nat.{_<_}
 use native.Mathlib.Omega.{arith}
 use mathlib.Core.Path.{_≡_, sym, _∙_}
 use mathlib.Core.Bool.{true, false}
