@@ -23,7 +23,7 @@ use Rattle.desk.specs.declared.record.Desk.{Desk}
 use Rattle.desk.specs.declared.record.DeskAnswer.{DeskAnswer}
 use Rattle.desk.specs.Operations.{running, reading, writing, noOperation, begunOperation, phaseLawful}
 use Rattle.desk.specs.Desks.{mostRound, fits, accepted, refused, turned, Typed}
-use Rattle.desk.specs.Begins.{begun, startOf, beginOf, dropped, dropOf, turnedOf, unturned}
+use Rattle.desk.specs.Begins.{begun, startOf, beginOf, dropped, dropOf, turnedOf, answerOf, unturned}
 use Rattle.desk.proofs.Operations.{told-operation, mode-later, kind-fits, none-answered, none-fits, none-typed}
 use Rattle.desk.proofs.Desks.{fits-told, told-fits, fits-valid}
 
@@ -102,23 +102,11 @@ begin-unturned x kind v note k =
 
 -- Nothing else changes: the record with the round and the operation that a call turned is the record that it hands back.
 
-abbrev after : Desk → Turned → DeskAnswer
-after x t = record { verdict = t .verdict; desk = turned x (t .round) (t .operation) }
+pub begin-whole : (x : Desk) (kind : ℕ) (v : List ℕ) (note : ℕ) → answerOf x (turnedOf (beginOf x kind v note)) ≡ beginOf x kind v note
+begin-whole x kind v note = begin-cases (λ (a : DeskAnswer). answerOf x (turnedOf a) ≡ a) x kind v note (λ k. refl) (λ l r. refl)
 
-put-back : (x : Desk) (a : DeskAnswer) (t : Turned) (y : Desk) → after x (turnedOf a) ≡ a
-    → t ≡ turnedOf a → y ≡ turned x (t .round) (t .operation)
-    → record { verdict = t .verdict; desk = y } ≡ a
-put-back x a t y same p q = ap {B = DeskAnswer} (λ d. record { verdict = t .verdict; desk = d }) q ∙ ap (after x) p ∙ same
-
-pub begin-back : (x : Desk) (kind : ℕ) (v : List ℕ) (note : ℕ) (t : Turned) (y : Desk) → t ≡ turnedOf (beginOf x kind v note)
-    → y ≡ turned x (t .round) (t .operation) → record { verdict = t .verdict; desk = y } ≡ beginOf x kind v note
-begin-back x kind v note t y =
-    put-back x (beginOf x kind v note) t y
-    (begin-cases (λ (a : DeskAnswer). after x (turnedOf a) ≡ a) x kind v note (λ k. refl) (λ l r. refl))
-
-pub drop-back : (x : Desk) (t : Turned) (y : Desk) → t ≡ turnedOf (dropOf x)
-    → y ≡ turned x (t .round) (t .operation) → record { verdict = t .verdict; desk = y } ≡ dropOf x
-drop-back x t y = put-back x (dropOf x) t y (drop-cases (λ (a : DeskAnswer). after x (turnedOf a) ≡ a) x (λ k. refl) (λ m. refl))
+pub drop-whole : (x : Desk) → answerOf x (turnedOf (dropOf x)) ≡ dropOf x
+drop-whole x = drop-cases (λ (a : DeskAnswer). answerOf x (turnedOf a) ≡ a) x (λ k. refl) (λ m. refl)
 
 -- ---- a desk stays one
 

@@ -44,5 +44,9 @@ dropOf x =
 abbrev pub turnedOf : DeskAnswer → Turned
 turnedOf a = record { verdict = a .verdict; round = a .desk .round; operation = a .desk .operation }
 
+-- the answer that they make with the rest of the record
+abbrev pub answerOf : Desk → Turned → DeskAnswer
+answerOf x t = record { verdict = t .verdict; desk = turned x (t .round) (t .operation) }
+
 abbrev pub unturned : Refusal → ℕ → Operation → Turned
 unturned k round o = record { verdict = Verdict.Refused k; round = round; operation = o }

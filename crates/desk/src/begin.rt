@@ -18,7 +18,7 @@ ghost use mathlib.Core.List.{[]};
 ghost use Rattle.desk.specs.Parts.{deskOf};
 ghost use Rattle.desk.specs.Operations.{reading, writing};
 ghost use Rattle.desk.specs.Desks.{turned as turnedDesk};
-ghost use Rattle.desk.specs.Begins.{beginOf, dropOf, turnedOf, unturned as unturnedOf};
+ghost use Rattle.desk.specs.Begins.{beginOf, dropOf, turnedOf, answerOf, unturned as unturnedOf};
 
 // The last round.
 pub(crate) const MOST_ROUND: u32 = 4294967295;
@@ -35,25 +35,8 @@ impl Desk {
     pub fn begin_read(self, note: u32) -> DeskAnswer
         ensures { λ r. ⌜ r ≡ beginOf self reading [] note ⌝ }
     {
-        let held = self.replica.register;
-        let operation = self.operation;
-        let turned = begin_in(
-            self.config,
-            self.number,
-            &self.replica.ledger.counts,
-            &self.replica.ledger.cells,
-            held,
-            self.round,
-            operation,
-            READ,
-            b"",
-            note,
-        );
-        let verdict = turned.verdict;
-        DeskAnswer {
-            verdict,
-            desk: self.after(turned),
-        }
+        let turned = self.begin(READ, b"", note);
+        self.answered(turned)
     }
 
     // Begins a write of a value, with a note, or 0 for none: 1 for the record, 14 for a value over 64 bytes, 8 while an operation runs, 12 in the last
@@ -61,34 +44,25 @@ impl Desk {
     pub fn begin_write(self, note: u32, value: &[u8]) -> DeskAnswer
         ensures { λ r. ⌜ r ≡ beginOf self writing (now (value .entry)) note ⌝ }
     {
-        let held = self.replica.register;
-        let operation = self.operation;
-        let turned = begin_in(
-            self.config,
-            self.number,
-            &self.replica.ledger.counts,
-            &self.replica.ledger.cells,
-            held,
-            self.round,
-            operation,
-            WRITE,
-            value,
-            note,
-        );
-        let verdict = turned.verdict;
-        DeskAnswer {
-            verdict,
-            desk: self.after(turned),
-        }
+        let turned = self.begin(WRITE, value, note);
+        self.answered(turned)
     }
 
     // Ends the operation that runs without a result: 1 for the record, 9 if none runs.
     pub fn drop(self) -> DeskAnswer
         ensures { λ r. ⌜ r ≡ dropOf self ⌝ }
     {
+        let turned = self.dropping();
+        self.answered(turned)
+    }
+
+    // What a begin changes of the record, for a caller that puts it together by `after` in an answer of its own.
+    pub fn begin(self, kind: u16, value: &[u8], note: u32) -> Turned
+        ensures { λ r. ⌜ r ≡ turnedOf (beginOf self kind (now (value .entry)) note) ⌝ }
+    {
         let held = self.replica.register;
         let operation = self.operation;
-        let turned = drop_in(
+        begin_in(
             self.config,
             self.number,
             &self.replica.ledger.counts,
@@ -96,7 +70,33 @@ impl Desk {
             held,
             self.round,
             operation,
-        );
+            kind,
+            value,
+            note,
+        )
+    }
+
+    // What a drop changes of it.
+    pub fn dropping(self) -> Turned
+        ensures { λ r. ⌜ r ≡ turnedOf (dropOf self) ⌝ }
+    {
+        let held = self.replica.register;
+        let operation = self.operation;
+        drop_in(
+            self.config,
+            self.number,
+            &self.replica.ledger.counts,
+            &self.replica.ledger.cells,
+            held,
+            self.round,
+            operation,
+        )
+    }
+
+    // The answer of a call that turned the record's round and operation.
+    fn answered(self, turned: Turned) -> DeskAnswer
+        ensures { λ r. ⌜ r ≡ answerOf self turned ⌝ }
+    {
         let verdict = turned.verdict;
         DeskAnswer {
             verdict,
@@ -104,7 +104,7 @@ impl Desk {
         }
     }
 
-    // The record after a call that turned its round and operation.
+    // The record after such a call.
     pub fn after(mut self, turned: Turned) -> Desk
         ensures { λ r. ⌜ r ≡ turnedDesk self (turned .round) (turned .operation) ⌝ }
     {

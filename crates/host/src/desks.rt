@@ -6,16 +6,15 @@ use super::code::of_verdict;
 use desk::Desk;
 use desk::DeskAnswer;
 use desk::READ;
+use desk::Turned;
 use desk::WRITE;
-use desk::begin_in;
-use desk::drop_in;
 use desk::hear_lent;
 use replica::Register;
 ghost use mathlib.Core.Path.{_≡_};
 ghost use mathlib.Core.List.{[]};
 ghost use Rattle.desk.specs.Operations.{reading, writing};
 ghost use Rattle.desk.specs.Desks.{openOf};
-ghost use Rattle.desk.specs.Begins.{beginOf, dropOf};
+ghost use Rattle.desk.specs.Begins.{beginOf, dropOf, answerOf};
 ghost use Rattle.desk.specs.Asks.{askOf};
 ghost use Rattle.desk.specs.Hears.{hearOf};
 ghost use Rattle.desk.specs.Results.{resultOf};
@@ -51,25 +50,8 @@ pub extern "C" fn tovridsa_open_desk(n: u64, f: u64, number: u64) -> AnsweredDes
 pub extern "C" fn tovridsa_begin_read(desk: Desk, note: u32) -> AnsweredDesk
     ensures { λ r. ⌜ r ≡ deskCode (beginOf desk reading [] note) ⌝ }
 {
-    let held = desk.replica.register;
-    let operation = desk.operation;
-    let turned = begin_in(
-        desk.config,
-        desk.number,
-        &desk.replica.ledger.counts,
-        &desk.replica.ledger.cells,
-        held,
-        desk.round,
-        operation,
-        READ,
-        b"",
-        note,
-    );
-    let verdict = turned.verdict;
-    AnsweredDesk {
-        answer: of_verdict(verdict),
-        desk: desk.after(turned),
-    }
+    let turned = desk.begin(READ, b"", note);
+    of_turned(desk, turned)
 }
 
 // Begins a write of a value, with a note, or 0 for none.
@@ -77,25 +59,8 @@ pub extern "C" fn tovridsa_begin_read(desk: Desk, note: u32) -> AnsweredDesk
 pub extern "C" fn tovridsa_begin_write(desk: Desk, note: u32, value: &[u8]) -> AnsweredDesk
     ensures { λ r. ⌜ r ≡ deskCode (beginOf desk writing (now (value .entry)) note) ⌝ }
 {
-    let held = desk.replica.register;
-    let operation = desk.operation;
-    let turned = begin_in(
-        desk.config,
-        desk.number,
-        &desk.replica.ledger.counts,
-        &desk.replica.ledger.cells,
-        held,
-        desk.round,
-        operation,
-        WRITE,
-        value,
-        note,
-    );
-    let verdict = turned.verdict;
-    AnsweredDesk {
-        answer: of_verdict(verdict),
-        desk: desk.after(turned),
-    }
+    let turned = desk.begin(WRITE, value, note);
+    of_turned(desk, turned)
 }
 
 // Writes a request to a server into a buffer from a place on: the place after it.
@@ -149,17 +114,14 @@ pub extern "C" fn tovridsa_result(desk: Desk) -> AnsweredResult
 pub extern "C" fn tovridsa_drop(desk: Desk) -> AnsweredDesk
     ensures { λ r. ⌜ r ≡ deskCode (dropOf desk) ⌝ }
 {
-    let held = desk.replica.register;
-    let operation = desk.operation;
-    let turned = drop_in(
-        desk.config,
-        desk.number,
-        &desk.replica.ledger.counts,
-        &desk.replica.ledger.cells,
-        held,
-        desk.round,
-        operation,
-    );
+    let turned = desk.dropping();
+    of_turned(desk, turned)
+}
+
+// A record that a call turned goes straight into the answer: made by way of a `DeskAnswer` it would be copied once more.
+fn of_turned(desk: Desk, turned: Turned) -> AnsweredDesk
+    ensures { λ r. ⌜ r ≡ deskCode (answerOf desk turned) ⌝ }
+{
     let verdict = turned.verdict;
     AnsweredDesk {
         answer: of_verdict(verdict),

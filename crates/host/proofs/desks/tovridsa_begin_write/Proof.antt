@@ -1,26 +1,23 @@
--- `tovridsa_begin_write` meets its contract: the parts that changed are put back into the record.
-use Rattle.ledger.proofs.Answers.{read-back}
-use Rattle.desk.proofs.Begins.{begin-back}
-use Rattle.host.proofs.Answered.{answered}
-use mathlib.Core.Path.{_∙_}
+-- `tovridsa_begin_write` meets its contract: nothing but the round and the operation changes.
+use mathlib.Core.Path.{_≡_, ap, _∙_}
+use Rattle.desk.specs.declared.begin.Turned.{Turned}
+use Rattle.desk.specs.Begins.{answerOf}
+use Rattle.desk.proofs.Begins.{begin-whole}
+use Rattle.host.specs.Calls.{deskCode}
 use borrow.Author.Needs.{needs}
 use Rattle.host.proofs.desks.tovridsa_begin_write.Statement.{statement}
 use Rattle.host.proofs.desks.tovridsa_begin_write.Tie as tie
 
-begin-in-requires : tie.Need-begin-in-requires
-begin-in-requires c κs = search needs
+begin-requires : tie.Need-begin-requires
+begin-requires c κs = search needs
 
-of-verdict-requires : tie.Need-of-verdict-requires
-of-verdict-requires c κs = search needs
-
-after-requires : tie.Need-after-requires
-after-requires c κs = search needs
+of-turned-requires : tie.Need-of-turned-requires
+of-turned-requires c κs = search needs
 
 returns : tie.Need-returns
 returns c =
-    let number = c .before .of-verdict in
-    answered (read-back (number .result) (number .ok) ∙ number .ensures) (begin-back _ _ _ _ _ _ (c .before .before .begin-in .ensures) (c .after .ensures))
+    let desk = c .before .before .before .args .desk in
+    c .of-turned .ensures ∙ ap (λ (t : Turned). deskCode (answerOf desk t)) (c .before .begin .ensures) ∙ ap deskCode (begin-whole desk _ _ _)
 
 pub tovridsa-begin-write-spec : {M : Type 1} → statement M
-tovridsa-begin-write-spec =
-    tie.close (tie.spec begin-in-requires of-verdict-requires after-requires returns)
+tovridsa-begin-write-spec = tie.close (tie.spec begin-requires of-turned-requires returns)

@@ -1,26 +1,23 @@
--- `tovridsa_drop` meets its contract: the parts that changed are put back into the record.
-use Rattle.ledger.proofs.Answers.{read-back}
-use Rattle.desk.proofs.Begins.{drop-back}
-use Rattle.host.proofs.Answered.{answered}
-use mathlib.Core.Path.{_∙_}
+-- `tovridsa_drop` meets its contract: nothing but the round and the operation changes.
+use mathlib.Core.Path.{_≡_, ap, _∙_}
+use Rattle.desk.specs.declared.begin.Turned.{Turned}
+use Rattle.desk.specs.Begins.{answerOf}
+use Rattle.desk.proofs.Begins.{drop-whole}
+use Rattle.host.specs.Calls.{deskCode}
 use borrow.Author.Needs.{needs}
 use Rattle.host.proofs.desks.tovridsa_drop.Statement.{statement}
 use Rattle.host.proofs.desks.tovridsa_drop.Tie as tie
 
-drop-in-requires : tie.Need-drop-in-requires
-drop-in-requires c κs = search needs
+dropping-requires : tie.Need-dropping-requires
+dropping-requires c κs = search needs
 
-of-verdict-requires : tie.Need-of-verdict-requires
-of-verdict-requires c κs = search needs
-
-after-requires : tie.Need-after-requires
-after-requires c κs = search needs
+of-turned-requires : tie.Need-of-turned-requires
+of-turned-requires c κs = search needs
 
 returns : tie.Need-returns
 returns c =
-    let number = c .before .of-verdict in
-    answered (read-back (number .result) (number .ok) ∙ number .ensures) (drop-back _ _ _ (c .before .before .drop-in .ensures) (c .after .ensures))
+    let desk = c .before .before .args .desk in
+    c .of-turned .ensures ∙ ap (λ (t : Turned). deskCode (answerOf desk t)) (c .before .dropping .ensures) ∙ ap deskCode (drop-whole desk)
 
 pub tovridsa-drop-spec : {M : Type 1} → statement M
-tovridsa-drop-spec =
-    tie.close (tie.spec drop-in-requires of-verdict-requires after-requires returns)
+tovridsa-drop-spec = tie.close (tie.spec dropping-requires of-turned-requires returns)

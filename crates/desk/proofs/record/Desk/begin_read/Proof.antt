@@ -1,21 +1,23 @@
--- `begin_read` meets its contract: the parts that begin changed are put back into the record.
+-- `begin_read` meets its contract: nothing but the round and the operation changes.
+use mathlib.Core.Path.{_≡_, ap, _∙_}
+use Rattle.desk.specs.Begins.{answerOf}
+use Rattle.desk.proofs.Begins.{begin-whole}
 use borrow.Author.Needs.{needs}
-use Rattle.desk.proofs.Begins.{begin-back}
 use Rattle.desk.proofs.record.Desk.begin_read.Statement.{statement}
 use Rattle.desk.proofs.record.Desk.begin_read.Tie as tie
 
-slice-aggregate-begin-in : tie.Need-slice-aggregate-begin-in
-slice-aggregate-begin-in c = search needs
+slice-aggregate-begin : tie.Need-slice-aggregate-begin
+slice-aggregate-begin c = search needs
 
-begin-in-requires : tie.Need-begin-in-requires
-begin-in-requires c κs = search needs
+begin-requires : tie.Need-begin-requires
+begin-requires c κs = search needs
 
-after-requires : tie.Need-after-requires
-after-requires c κs = search needs
+answered-requires : tie.Need-answered-requires
+answered-requires c κs = search needs
 
 returns : tie.Need-returns
-returns c = begin-back _ _ _ _ _ _ (c .before .begin-in .ensures) (c .after .ensures)
+returns c = c .answered .ensures ∙ ap (answerOf (c .before .before .before .args .self)) (c .before .begin .ensures) ∙ begin-whole _ _ _ _
 
 pub begin-read-spec : {M : Type 1} → statement M
 begin-read-spec =
-    tie.close (tie.spec slice-aggregate-begin-in begin-in-requires after-requires returns)
+    tie.close (tie.spec slice-aggregate-begin begin-requires answered-requires returns)

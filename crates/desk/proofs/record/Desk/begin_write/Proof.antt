@@ -1,17 +1,19 @@
--- `begin_write` meets its contract: the parts that begin changed are put back into the record.
+-- `begin_write` meets its contract: nothing but the round and the operation changes.
+use mathlib.Core.Path.{_≡_, ap, _∙_}
+use Rattle.desk.specs.Begins.{answerOf}
+use Rattle.desk.proofs.Begins.{begin-whole}
 use borrow.Author.Needs.{needs}
-use Rattle.desk.proofs.Begins.{begin-back}
 use Rattle.desk.proofs.record.Desk.begin_write.Statement.{statement}
 use Rattle.desk.proofs.record.Desk.begin_write.Tie as tie
 
-begin-in-requires : tie.Need-begin-in-requires
-begin-in-requires c κs = search needs
+begin-requires : tie.Need-begin-requires
+begin-requires c κs = search needs
 
-after-requires : tie.Need-after-requires
-after-requires c κs = search needs
+answered-requires : tie.Need-answered-requires
+answered-requires c κs = search needs
 
 returns : tie.Need-returns
-returns c = begin-back _ _ _ _ _ _ (c .before .begin-in .ensures) (c .after .ensures)
+returns c = c .answered .ensures ∙ ap (answerOf (c .before .before .before .args .self)) (c .before .begin .ensures) ∙ begin-whole _ _ _ _
 
 pub begin-write-spec : {M : Type 1} → statement M
-begin-write-spec = tie.close (tie.spec begin-in-requires after-requires returns)
+begin-write-spec = tie.close (tie.spec begin-requires answered-requires returns)

@@ -1,17 +1,19 @@
--- `drop` meets its contract: the parts that drop changed are put back into the record.
+-- `drop` meets its contract: nothing but the round and the operation changes.
+use mathlib.Core.Path.{_≡_, ap, _∙_}
+use Rattle.desk.specs.Begins.{answerOf}
+use Rattle.desk.proofs.Begins.{drop-whole}
 use borrow.Author.Needs.{needs}
-use Rattle.desk.proofs.Begins.{drop-back}
 use Rattle.desk.proofs.record.Desk.drop.Statement.{statement}
 use Rattle.desk.proofs.record.Desk.drop.Tie as tie
 
-drop-in-requires : tie.Need-drop-in-requires
-drop-in-requires c κs = search needs
+dropping-requires : tie.Need-dropping-requires
+dropping-requires c κs = search needs
 
-after-requires : tie.Need-after-requires
-after-requires c κs = search needs
+answered-requires : tie.Need-answered-requires
+answered-requires c κs = search needs
 
 returns : tie.Need-returns
-returns c = drop-back _ _ _ (c .before .drop-in .ensures) (c .after .ensures)
+returns c = c .answered .ensures ∙ ap (answerOf (c .before .before .args .self)) (c .before .dropping .ensures) ∙ drop-whole _
 
 pub drop-spec : {M : Type 1} → statement M
-drop-spec = tie.close (tie.spec drop-in-requires after-requires returns)
+drop-spec = tie.close (tie.spec dropping-requires answered-requires returns)
