@@ -10,7 +10,10 @@ tally-requires : tie.Need-tally-requires
 tally-requires c κs = search needs
 
 left-over-requires : tie.Need-left-over-requires
-left-over-requires c κs = search needs
+left-over-requires c κs =
+    let below = c .before .before .before .before .before in
+    let p = below .before .before .before .before .before .before .before .pre in
+    (p .0, p .1, p .2, below .tally .ensures .2, below .tally .ensures .4)
 
 add-result : tie.Need-add-result
 add-result c = search needs
