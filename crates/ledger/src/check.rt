@@ -49,7 +49,8 @@ pub fn check_lent<'a>(counts: &'a [u16; 16], cells: &'a [u32; 256], config: Conf
     weigh(counts, cells, config, &mut received, &mut given)
 }
 
-pub(crate) fn bounds<'a>(counts: &'a [u16], cells: &'a [u32], config: Config) -> Verdict
+// Whether the counts and cells that are lent are within range.
+fn bounds<'a>(counts: &'a [u16], cells: &'a [u32], config: Config) -> Verdict
     requires { ⌜ (length (now counts) ≡ 16) × (length (now cells) ≡ 256) ⌝ }
     ensures { λ r. ⌜ r ≡ boundsAnswer config (ledgerOf (now (counts .entry)) (now (cells .entry))) ⌝ }
 {
