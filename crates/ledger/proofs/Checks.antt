@@ -10,7 +10,7 @@ use Rattle.config.specs.Refusals.{refusal}
 use Rattle.config.specs.declared.answer.Refusal.{Refusal}
 use Rattle.config.specs.declared.answer.Verdict.{Verdict}
 use Rattle.ledger.specs.declared.ledger.Ledger.{Ledger}
-use Rattle.ledger.specs.Checks.{bounded, aboveFloor, fits, boundsAnswer, floorAnswer, checkAnswer}
+use Rattle.ledger.specs.Checks.{bounded, aboveFloor, fits, floorAnswer, checkAnswer}
 
 pub accepted-not-refused : {A : Type 0} (r : Refusal) → Verdict.Accepted ≡ Verdict.Refused r → A
 accepted-not-refused r e = let z : _≡_ {A = ℕ} 0 1 = cc in absurd (omega arith)

@@ -3,12 +3,11 @@
 use Prim.Native.Nat.{ℕ, _+_, _-_, _*_, _/_, _%_, _≤_, _<_}
 use native.Mathlib.Decide.{ℕ-discrete}
 use native.Mathlib.Omega.{arith}
-use mathlib.Core.Path.{_≡_, refl, sym, ap, ap₂, _∙_}
+use mathlib.Core.Path.{_≡_, refl, sym, ap, _∙_}
 use mathlib.Core.Logic.{_⊎_, inl, inr, ⊎-elim}
 use mathlib.Core.Bool.{Bool, true, false, cond, not}
-use mathlib.Core.List.{List}
-use borrow.Author.Tests.{lt-ltb, le-ltb, le-leb, eq-eqb, ne-eqb, ltb-true, eqb-true}
-use lib.Dec.{leb, ltb, eqb}
+use borrow.Author.Tests.{lt-ltb, le-ltb, le-leb, eq-eqb, ne-eqb, eqb-true}
+use lib.Dec.{ltb, eqb}
 use lib.ListN.{getD}
 use Rattle.quorums.specs.Sum.{sum, all}
 use Rattle.quorums.proofs.Sums.{sum-next, sum-zero, sum-rest, sum-extend, all-each, each-all}
@@ -18,7 +17,7 @@ use Rattle.config.specs.declared.cluster.Config.{Config}
 use Rattle.ledger.specs.declared.ledger.Ledger.{Ledger}
 use Rattle.ledger.specs.Ledgers.{countOf, cellOf, lineOf, givenOf, receivedOf}
 use Rattle.ledger.specs.Checks.{mayHold, totalFits, cellFits, rowFits, bounded}
-use Rattle.ledger.specs.Sums.{under, receivedFrom, givenBelow, rowFaults, beyond, beyondFrom, faultsOf}
+use Rattle.ledger.specs.Sums.{under, receivedFrom, rowFaults, beyond, beyondFrom, faultsOf}
 use Rattle.ledger.proofs.Lines.{given-line}
 use Rattle.ledger.proofs.Rows.{one-test}
 use Rattle.ledger.proofs.Totals.{bounded-told, told-bounded, cell-placed, cell-outside, total-fits-told, Placed}

@@ -25,7 +25,6 @@ use Rattle.ledger.specs.Ledgers.{countOf, cellOf, givenOf, receivedOf, a
 use Rattle.ledger.specs.Weights.{weightOf}
 use Rattle.ledger.specs.Checks.{rowFits, serverAbove, bounded, aboveFloor, fits}
 use Rattle.ledger.specs.Changes.{lawful, mostCount, spares, added, giveVerdict, giveAnswer, addAnswer}
-use Rattle.ledger.proofs.Lines.{inCells}
 use Rattle.ledger.proofs.Totals.{bounded-told, total-fits-told, received-given}
 use Rattle.ledger.proofs.Majorities.{each-above}
 use Rattle.ledger.proofs.Checks.{accepted-not-refused, ledger-told, told-ledger}

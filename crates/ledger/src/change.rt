@@ -11,7 +11,7 @@ ghost use mathlib.Core.Bool.{true};
 ghost use Prim.Native.Nat.{_+_, _*_, _-_, _≤_, _<_};
 ghost use lib.Dec.{leb};
 ghost use lib.ListN.{length, getD, set};
-ghost use Rattle.config.specs.Cluster.{validOf, serverOf, startOf, leastOf};
+ghost use Rattle.config.specs.Cluster.{validOf, startOf, leastOf};
 ghost use Rattle.ledger.specs.Ledgers.{ledgerOf};
 ghost use Rattle.ledger.specs.Changes.{lawful as lawfulOf, giveVerdict, addAnswer};
 

@@ -9,7 +9,7 @@ use config::Refusal;
 use config::Verdict;
 ghost use mathlib.Core.Path.{_≡_};
 ghost use mathlib.Core.Bool.{true};
-ghost use Prim.Native.Nat.{ℕ, _+_, _*_, _≤_, _<_};
+ghost use Prim.Native.Nat.{_+_, _*_, _≤_, _<_};
 ghost use lib.ListN.{length, getD, replicate};
 ghost use Rattle.quorums.specs.Sum.{sum};
 ghost use Rattle.config.specs.Cluster.{validOf, leastOf};

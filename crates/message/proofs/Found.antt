@@ -24,7 +24,7 @@ use Rattle.replica.proofs.Replicas.{fits-told, told-fits}
 use Rattle.message.specs.declared.envelope.Envelope.{Envelope}
 use Rattle.message.specs.Envelopes.{messageOf, trimmedReplica, Typed}
 use Rattle.message.specs.Cursors.{within}
-use Rattle.message.specs.Answers.{Written, check, receiveOf, place, writeOf}
+use Rattle.message.specs.Answers.{check, receiveOf, place, writeOf}
 use Rattle.message.specs.Faults.{kindFits, lawful, test, faultOf, sendOf}
 use Rattle.message.proofs.Faults.{HeadGood, message-found, fault-is-check}
 use Rattle.message.proofs.Lawful.{lawful-told, told-lawful}

@@ -7,7 +7,7 @@ use mathlib.Core.Path.{_≡_, sym, ap, ap₂, _∙_}
 use mathlib.Core.List.{List}
 use lib.ListN.{length, getD, replicate}
 use Rattle.quorums.specs.Sum.{sum}
-use Rattle.quorums.proofs.Sums.{sum-same, sum-zero, sum-next, sum-le, sum-const}
+use Rattle.quorums.proofs.Sums.{sum-same, sum-zero, sum-next}
 use Rattle.config.specs.declared.cluster.Config.{Config}
 use Rattle.ledger.specs.Ledgers.{cellOf, receivedOf, givenOf}
 use Rattle.ledger.specs.Tables.{table}

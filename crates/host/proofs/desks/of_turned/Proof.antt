@@ -1,5 +1,5 @@
 -- `of_turned` meets its contract.
-use mathlib.Core.Path.{_≡_, ap₂, _∙_}
+use mathlib.Core.Path.{ap₂, _∙_}
 use Rattle.ledger.proofs.Answers.{read-back}
 use Rattle.host.specs.declared.desks.AnsweredDesk.{AnsweredDesk}
 use borrow.Author.Needs.{needs}

@@ -1,5 +1,5 @@
 -- `tovridsa_drop` meets its contract: nothing but the round and the operation changes.
-use mathlib.Core.Path.{_≡_, ap, _∙_}
+use mathlib.Core.Path.{ap, _∙_}
 use Rattle.desk.specs.declared.begin.Turned.{Turned}
 use Rattle.desk.specs.Begins.{answerOf}
 use Rattle.desk.proofs.Begins.{drop-whole}

@@ -1,15 +1,14 @@
 -- `may_add` meets its contract: the record test, and then the tests of a transfer by what the giver received and gave.
-use Prim.Native.Nat.{_+_, _-_, _≤_, _<_}
+use Prim.Native.Nat.{_+_, _-_, _<_}
 use native.Mathlib.Omega.{arith}
 use mathlib.Core.Path.{_≡_, sym, ap, ap₂, _∙_}
 use mathlib.Core.Bool.{true}
 use borrow.Author.Needs.{needs}
 use borrow.Author.Tests.{not-true, not-false}
 use lib.Dec.{leb}
-use lib.ListN.{length, getD}
-use Rattle.config.specs.Cluster.{validOf, startOf, leastOf}
+use lib.ListN.{getD}
+use Rattle.config.specs.Cluster.{validOf, startOf, leastOf, serverOf}
 use Rattle.config.proofs.Clusters.{server-valid, server-small}
-use Rattle.config.specs.Cluster.{serverOf}
 use Rattle.ledger.specs.declared.ledger.Ledger.{Ledger}
 use Rattle.ledger.specs.Ledgers.{ledgerOf, countOf, receivedOf, givenOf}
 use Rattle.ledger.specs.Checks.{fits}

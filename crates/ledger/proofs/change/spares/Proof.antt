@@ -1,7 +1,7 @@
 -- `spares` meets its contract: what is above the least weight can be given.
 use Prim.Native.Nat.{_+_, _-_}
 use native.Mathlib.Omega.{arith}
-use mathlib.Core.Path.{_≡_, sym, ap, ap₂, _∙_}
+use mathlib.Core.Path.{_≡_, sym, ap₂, _∙_}
 use borrow.Author.Needs.{needs}
 use lib.Dec.{leb}
 use Rattle.config.specs.Cluster.{leastOf}

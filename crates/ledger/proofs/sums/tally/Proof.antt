@@ -1,14 +1,12 @@
 -- `tally` meets its contract: after i turns the first i rows are summed.
-use Prim.Native.Nat.{ℕ, _+_, _-_, _*_, _≤_, _<_}
+use Prim.Native.Nat.{ℕ, _-_, _≤_, _<_}
 use native.Mathlib.Omega.{arith}
-use mathlib.Core.Path.{_≡_, refl, sym, ap, _∙_}
+use mathlib.Core.Path.{_≡_}
 use borrow.Author.Needs.{needs}
 use denote.Ref.{now}
-use lib.ListN.{length, getD, replicate, length-set}
-use Rattle.quorums.specs.Sum.{sum}
+use lib.ListN.{getD}
 use Rattle.ledger.specs.declared.ledger.Ledger.{Ledger}
 use Rattle.ledger.specs.Ledgers.{ledgerOf}
-use Rattle.ledger.specs.Sums.{rowFaults}
 use Rattle.ledger.proofs.Summed.{Summed, summed-none, summed-room, summed-next, summed-received, summed-given, received-sums, given-sums}
 use Rattle.ledger.proofs.sums.tally.Statement.{statement}
 use Rattle.ledger.proofs.sums.tally.Tie as tie

@@ -12,8 +12,7 @@ use Rattle.message.specs.declared.state.Cursor.{Cursor}
 use Rattle.message.specs.Scans.{cellOfRow, rowsAfter}
 use Rattle.reader.specs.Steps.{settled}
 use Rattle.reader.proofs.Rests.{rest-bit, rest-next, rest-inside, rows-settle, row-beyond, rows-fault, row-after-fault}
-use Rattle.ledger.proofs.Tallies.{Tallied, tally-none, tally-next, zeros-at, bounded}
-use Rattle.ledger.proofs.Tallies.{sum-most}
+use Rattle.ledger.proofs.Tallies.{Tallied, tally-none, tally-next, zeros-at, bounded, sum-most}
 use Rattle.reader.proofs.Weighed.{row-cursor, row-received, row-given, cell-most, rows-received, rows-given}
 use Rattle.reader.proofs.weigh.weigh_rows.Statement.{statement}
 use Rattle.reader.proofs.weigh.weigh_rows.Tie as tie

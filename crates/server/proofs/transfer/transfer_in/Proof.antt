@@ -1,5 +1,5 @@
 -- `transfer_in` meets its contract: the register's test, and `add` on the ledger.
-use mathlib.Core.Path.{_≡_, refl, sym, _∙_}
+use mathlib.Core.Path.{refl, sym, _∙_}
 use borrow.Author.Needs.{needs}
 use borrow.Author.Tests.{not-true, not-false}
 use Rattle.server.specs.declared.record.Server.{Server}

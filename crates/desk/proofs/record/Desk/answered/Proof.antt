@@ -1,5 +1,5 @@
 -- `answered` meets its contract.
-use mathlib.Core.Path.{_≡_, ap}
+use mathlib.Core.Path.{ap}
 use Rattle.desk.specs.declared.record.Desk.{Desk}
 use Rattle.desk.specs.declared.record.DeskAnswer.{DeskAnswer}
 use borrow.Author.Needs.{needs}
