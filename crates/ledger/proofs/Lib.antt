@@ -1,4 +1,4 @@
--- Laws. `Lines`, `Maps` and `Joins` serve the functions here; the others are for use above too.
+-- Laws. `Lines`, `Maps`, `Joins` and `Summed` serve the functions here; the others are for use above too.
 pub mod Lines
 pub mod Rows
 pub mod Maps

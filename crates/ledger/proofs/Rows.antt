@@ -7,8 +7,8 @@ use mathlib.Core.Bool.{Bool, true, false, cond}
 use lib.Dec.{eqb}
 use borrow.Author.Tests.{ne-eqb}
 use mathlib.Core.List.{List}
-use lib.ListN.{getD, take, drop}
-use lib.Seq.{getD-take, getD-drop}
+use lib.ListN.{length, getD, take, drop, length-drop}
+use lib.Seq.{length-take-le, getD-take, getD-drop}
 use Rattle.quorums.specs.Sum.{sum, all}
 use Rattle.ledger.specs.declared.ledger.Ledger.{Ledger}
 use Rattle.ledger.specs.Ledgers.{countOf}
@@ -45,13 +45,19 @@ by-rows p =
     let e : k / 16 * 16 + k % 16 ≡ k = omega arith in
     subst (λ m. p m ≡ true) e (all-each 16 (λ j. p (k / 16 * 16 + j)) (all-each 16 (λ i. all 16 (λ j. p (i * 16 + j))) h (k / 16) (omega arith)) (k % 16) (omega arith))))
 
--- a row as a part of the cells
-pub in-row : (cells : List ℕ) (i j : ℕ) → j < 16 → getD (take (i * 16 + 16 - i * 16) (drop (i * 16) cells)) j 0 ≡ getD cells (i * 16 + j) 0
+-- row i of all cells, as it is lent
+abbrev pub part : List ℕ → ℕ → List ℕ
+part cells i = take (i * 16 + 16 - i * 16) (drop (i * 16) cells)
+
+pub part-length : (cells : List ℕ) (i : ℕ) → length cells ≡ 256 → i < 16 → length (part cells i) ≡ 16
+part-length cells i e h = length-take-le (i * 16 + 16 - i * 16) (drop (i * 16) cells) (rw length-drop (omega arith)) ∙ omega arith
+
+pub in-row : (cells : List ℕ) (i j : ℕ) → j < 16 → getD (part cells i) j 0 ≡ getD cells (i * 16 + j) 0
 in-row cells i j l = getD-take (i * 16 + 16 - i * 16) (drop (i * 16) cells) j 0 (omega arith) ∙ getD-drop (i * 16) cells j 0
 
 -- whether two rows agree, by the parts of the cells and by the ledgers
 pub row-agrees : (a b : Ledger) (i : ℕ)
-    → all 16 (λ j. agree (countOf a i) (countOf b i) (getD (take (i * 16 + 16 - i * 16) (drop (i * 16) (a .cells))) j 0) (getD (take (i * 16 + 16 - i * 16) (drop (i * 16) (b .cells))) j 0))
+    → all 16 (λ j. agree (countOf a i) (countOf b i) (getD (part (a .cells) i) j 0) (getD (part (b .cells) i) j 0))
     ≡ all 16 (λ j. agreeAt a b (i * 16 + j))
 row-agrees a b i =
     all-same 16 _ _

@@ -1,11 +1,11 @@
 -- The rows of a ledger summed one after the other: after i rows, their faults, what each server received of them, and what each of their givers gave.
-use Prim.Native.Nat.{ℕ, _+_, _-_, _*_, _≤_, _<_}
+use Prim.Native.Nat.{ℕ, _+_, _*_, _≤_, _<_}
 use native.Mathlib.Omega.{arith}
 use mathlib.Core.Path.{_≡_, refl, ap, ap₂, _∙_}
 use mathlib.Core.Logic.{⊎-elim}
 use mathlib.Core.List.{List}
 use borrow.Author.Tests.{lt-ltb, le-ltb}
-use lib.ListN.{length, getD, set, replicate, take, drop}
+use lib.ListN.{length, getD, set, replicate}
 use Rattle.quorums.specs.Sum.{sum}
 use Rattle.quorums.proofs.Sums.{sum-next, sum-same}
 use Rattle.quorums.proofs.Tests.{le-or-lt}
@@ -15,12 +15,8 @@ use Rattle.ledger.specs.Ledgers.{countOf, cellOf, givenOf}
 use Rattle.ledger.specs.Tables.{table}
 use Rattle.ledger.specs.Sums.{Sums, under, receivedFrom, givenBelow, rowFaults}
 use Rattle.ledger.proofs.Tables.{is-table, table-at, table-length}
-use Rattle.ledger.proofs.Rows.{in-row}
+use Rattle.ledger.proofs.Rows.{part, in-row}
 use Rattle.ledger.proofs.Tallies.{Tallied, tally-none, tally-next, zeros-at, bounded, sum-most}
-
--- row i of all cells, as it is lent
-abbrev pub part : List ℕ → ℕ → List ℕ
-part cells i = take (i * 16 + 16 - i * 16) (drop (i * 16) cells)
 
 pub record Summed (l : Ledger) (zeros received given : List ℕ) (faults i : ℕ) : Type 0 where
   pub counted : faults ≡ sum i (rowFaults l)

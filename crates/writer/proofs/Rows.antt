@@ -5,10 +5,10 @@ use native.Mathlib.Numerals.{add-one}
 use native.Mathlib.Omega.{arith}
 use mathlib.Core.Path.{_≡_, refl, sym, ap, _∙_}
 use mathlib.Core.List.{List, [], _++_}
-use lib.ListN.{length, getD, take, drop, length-append, length-drop, drop-of-length-le}
-use lib.Seq.{length-take-le, getD-take, getD-drop}
+use lib.ListN.{length, getD, length-append, drop-of-length-le}
 use Rattle.quorums.specs.Sum.{sum}
 use Rattle.quorums.proofs.Sums.{sum-same, sum-le}
+use Rattle.ledger.proofs.Rows.{part, in-row}
 use Rattle.format.specs.Bytes.{bytes, series, stands, marks}
 use Rattle.format.specs.Table.{cellMap, cells, rowMark, row, rowMap}
 use Rattle.format.proofs.Lengths.{bytes-length, series-next}
@@ -20,21 +20,11 @@ use Rattle.writer.specs.Places.{onto}
 use Rattle.writer.proofs.Places.{onto-between}
 use Rattle.writer.proofs.Puts.{number-present}
 
--- row i of all cells, as it is lent
-abbrev pub part : List ℕ → ℕ → List ℕ
-part all i = take (i * 16 + 16 - i * 16) (drop (i * 16) all)
-
-pub part-length : (all : List ℕ) (i : ℕ) → length all ≡ 256 → i < 16 → length (part all i) ≡ 16
-part-length all i e h = length-take-le (i * 16 + 16 - i * 16) (drop (i * 16) all) (rw length-drop (omega arith)) ∙ omega arith
-
-part-cell : (all : List ℕ) (i j : ℕ) → j < 16 → getD (part all i) j 0 ≡ getD all (i * 16 + j) 0
-part-cell all i j h = getD-take (i * 16 + 16 - i * 16) (drop (i * 16) all) j 0 (omega arith) ∙ getD-drop (i * 16) all j 0
-
 pub part-total : (all : List ℕ) (i : ℕ) → sum 16 (λ j. getD (part all i) j 0) ≡ sum 16 (λ j. getD all (i * 16 + j) 0)
-part-total all i = sum-same 16 _ _ (part-cell all i)
+part-total all i = sum-same 16 _ _ (in-row all i)
 
 pub part-row : (count : ℕ) (all : List ℕ) (i : ℕ) → row count (λ j. getD (part all i) j 0) ≡ row count (λ j. getD all (i * 16 + j) 0)
-part-row count all i = row-same count count _ _ refl (part-cell all i)
+part-row count all i = row-same count count _ _ refl (in-row all i)
 
 -- the bytes of one part more
 pub bytes-next : (f : ℕ → List ℕ) (i bytes n : ℕ) → bytes ≡ length (series i f) → n ≡ length (f i) → bytes + n ≡ length (series (i + 1) f)

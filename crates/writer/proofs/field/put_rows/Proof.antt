@@ -8,7 +8,8 @@ use denote.Ref.{now}
 use lib.ListN.{getD}
 use Rattle.format.specs.Table.{row, rows}
 use Rattle.writer.proofs.Places.{Written, written-none, written-length, written-room, written-next, written-rest, written-all}
-use Rattle.writer.proofs.Rows.{part, part-length, part-total, part-row, row-absent}
+use Rattle.ledger.proofs.Rows.{part, part-length}
+use Rattle.writer.proofs.Rows.{part-total, part-row, row-absent}
 use Rattle.writer.proofs.field.put_rows.Statement.{statement}
 use Rattle.writer.proofs.field.put_rows.Tie as tie
 

@@ -7,7 +7,8 @@ use denote.Ref.{now}
 use lib.ListN.{length, getD}
 use Rattle.format.specs.Bytes.{series}
 use Rattle.format.specs.Table.{row, rows}
-use Rattle.writer.proofs.Rows.{part-length, part-total, part-row, bytes-next}
+use Rattle.ledger.proofs.Rows.{part-length}
+use Rattle.writer.proofs.Rows.{part-total, part-row, bytes-next}
 use Rattle.writer.proofs.outline.rows_bytes.Statement.{statement}
 use Rattle.writer.proofs.outline.rows_bytes.Tie as tie
 
