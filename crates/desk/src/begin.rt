@@ -9,12 +9,12 @@ use super::record::fits_in;
 use config::Config;
 use config::Refusal;
 use config::Verdict;
-use replica::MOST_VALUE;
 use replica::Register;
 use replica::Value;
 ghost use Prim.Native.Nat.{ℕ};
 ghost use mathlib.Core.Path.{_≡_};
-ghost use mathlib.Core.List.{[]};
+ghost use mathlib.Core.List.{List, []};
+ghost use Rattle.replica.specs.Values.{valueOf};
 ghost use Rattle.desk.specs.Parts.{deskOf};
 ghost use Rattle.desk.specs.Operations.{reading, writing};
 ghost use Rattle.desk.specs.Desks.{turned as turnedDesk};
@@ -35,7 +35,7 @@ impl Desk {
     pub fn begin_read(self, note: u32) -> DeskAnswer
         ensures { λ r. ⌜ r ≡ beginOf self reading [] note ⌝ }
     {
-        let turned = self.begin(READ, b"", note);
+        let turned = self.reading(note);
         self.answered(turned)
     }
 
@@ -44,7 +44,7 @@ impl Desk {
     pub fn begin_write(self, note: u32, value: &[u8]) -> DeskAnswer
         ensures { λ r. ⌜ r ≡ beginOf self writing (now (value .entry)) note ⌝ }
     {
-        let turned = self.begin(WRITE, value, note);
+        let turned = self.writing(note, value);
         self.answered(turned)
     }
 
@@ -56,13 +56,13 @@ impl Desk {
         self.answered(turned)
     }
 
-    // What a begin changes of the record, for a caller that puts it together by `after` in an answer of its own.
-    pub fn begin(self, kind: u16, value: &[u8], note: u32) -> Turned
-        ensures { λ r. ⌜ r ≡ turnedOf (beginOf self kind (now (value .entry)) note) ⌝ }
+    // What the begin of a read changes of the record, for a caller that puts it together by `after` in an answer of its own.
+    pub fn reading(self, note: u32) -> Turned
+        ensures { λ r. ⌜ r ≡ turnedOf (beginOf self reading [] note) ⌝ }
     {
         let held = self.replica.register;
         let operation = self.operation;
-        begin_in(
+        begin_read_in(
             self.config,
             self.number,
             &self.replica.ledger.counts,
@@ -70,9 +70,26 @@ impl Desk {
             held,
             self.round,
             operation,
-            kind,
-            value,
             note,
+        )
+    }
+
+    // What that of a write changes of it.
+    pub fn writing(self, note: u32, value: &[u8]) -> Turned
+        ensures { λ r. ⌜ r ≡ turnedOf (beginOf self writing (now (value .entry)) note) ⌝ }
+    {
+        let held = self.replica.register;
+        let operation = self.operation;
+        begin_write_in(
+            self.config,
+            self.number,
+            &self.replica.ledger.counts,
+            &self.replica.ledger.cells,
+            held,
+            self.round,
+            operation,
+            note,
+            value,
         )
     }
 
@@ -115,9 +132,63 @@ impl Desk {
     }
 }
 
-// Begin on the parts of a record, of which the ledger is lent as its counts and cells: an operation of a kind, with the value to be written, which for a
-// read is empty, and a note, or 0 for none.
-pub fn begin_in<'a>(
+// Begin of a read on the parts of a record, of which the ledger is lent as its counts and cells.
+pub fn begin_read_in<'a>(
+    config: Config,
+    number: u64,
+    counts: &'a [u16; 16],
+    cells: &'a [u32; 256],
+    register: Register,
+    round: u32,
+    operation: Operation,
+    note: u32,
+) -> Turned
+    ensures { λ r. ⌜ r ≡ turnedOf (beginOf (deskOf config number (now (counts .entry)) (now (cells .entry)) register round operation) reading [] note) ⌝ }
+{
+    begin_in(
+        config,
+        number,
+        counts,
+        cells,
+        register,
+        round,
+        operation,
+        READ,
+        b"",
+        note,
+    )
+}
+
+// The same of a write.
+pub fn begin_write_in<'a>(
+    config: Config,
+    number: u64,
+    counts: &'a [u16; 16],
+    cells: &'a [u32; 256],
+    register: Register,
+    round: u32,
+    operation: Operation,
+    note: u32,
+    value: &[u8],
+) -> Turned
+    ensures { λ r. ⌜ r ≡ turnedOf (beginOf (deskOf config number (now (counts .entry)) (now (cells .entry)) register round operation) writing (now (value .entry)) note) ⌝ }
+{
+    begin_in(
+        config,
+        number,
+        counts,
+        cells,
+        register,
+        round,
+        operation,
+        WRITE,
+        value,
+        note,
+    )
+}
+
+// The same of either kind, with the value to be written, which for a read is empty.
+fn begin_in<'a>(
     config: Config,
     number: u64,
     counts: &'a [u16; 16],
@@ -131,6 +202,7 @@ pub fn begin_in<'a>(
 ) -> Turned
     ensures { λ r. ⌜ r ≡ turnedOf (beginOf (deskOf config number (now (counts .entry)) (now (cells .entry)) register round operation) kind (now (value .entry)) note) ⌝ }
 {
+    let value = Value::of(value);
     match may_begin(
         config,
         number,
@@ -144,7 +216,7 @@ pub fn begin_in<'a>(
         Verdict::Accepted => Turned {
             verdict: Verdict::Accepted,
             round: round + 1,
-            operation: Operation::begun(kind, Value::of(value), note),
+            operation: Operation::begun(kind, value, note),
         },
         Verdict::Refused(r) => unturned(r, round, operation),
     }
@@ -159,14 +231,14 @@ fn may_begin<'a>(
     register: Register,
     round: u32,
     operation: Operation,
-    value: &[u8],
+    value: Value,
 ) -> Verdict
-    ensures { λ r. ⌜ ((kind note : ℕ) → r ≡ beginOf (deskOf config number (now (counts .entry)) (now (cells .entry)) register round operation) kind (now (value .entry)) note .verdict) ⌝ }
+    ensures { λ r. ⌜ ((kind note : ℕ) (v : List ℕ) → value ≡ valueOf v → r ≡ beginOf (deskOf config number (now (counts .entry)) (now (cells .entry)) register round operation) kind v note .verdict) ⌝ }
 {
     if !fits_in(config, number, counts, cells, register, round, operation) {
         return Verdict::Refused(Refusal::BadHouse);
     }
-    if (MOST_VALUE as usize) < value.len() {
+    if !value.fits() {
         return Verdict::Refused(Refusal::Long);
     }
     if operation.mode == RUNNING {

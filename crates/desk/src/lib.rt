@@ -10,12 +10,11 @@ mod result;
 
 pub use ask::ask_in;
 pub use begin::Turned;
-pub use begin::begin_in;
+pub use begin::begin_read_in;
+pub use begin::begin_write_in;
 pub use begin::drop_in;
 pub use lent::hear_lent;
 pub use operation::Operation;
-pub use operation::READ;
-pub use operation::WRITE;
 pub use record::Desk;
 pub use record::DeskAnswer;
 pub use record::Heard;

@@ -5,9 +5,7 @@ use super::code::of_number;
 use super::code::of_verdict;
 use desk::Desk;
 use desk::DeskAnswer;
-use desk::READ;
 use desk::Turned;
-use desk::WRITE;
 use desk::hear_lent;
 use replica::Register;
 ghost use mathlib.Core.Path.{_≡_};
@@ -50,7 +48,7 @@ pub extern "C" fn tovridsa_open_desk(n: u64, f: u64, number: u64) -> AnsweredDes
 pub extern "C" fn tovridsa_begin_read(desk: Desk, note: u32) -> AnsweredDesk
     ensures { λ r. ⌜ r ≡ deskCode (beginOf desk reading [] note) ⌝ }
 {
-    let turned = desk.begin(READ, b"", note);
+    let turned = desk.reading(note);
     of_turned(desk, turned)
 }
 
@@ -59,7 +57,7 @@ pub extern "C" fn tovridsa_begin_read(desk: Desk, note: u32) -> AnsweredDesk
 pub extern "C" fn tovridsa_begin_write(desk: Desk, note: u32, value: &[u8]) -> AnsweredDesk
     ensures { λ r. ⌜ r ≡ deskCode (beginOf desk writing (now (value .entry)) note) ⌝ }
 {
-    let turned = desk.begin(WRITE, value, note);
+    let turned = desk.writing(note, value);
     of_turned(desk, turned)
 }
 

@@ -18,7 +18,7 @@ use Rattle.desk.proofs.begin.begin_in.Tie as tie
 -- the entry, the desk by its parts, and the begin that is asked for
 
 abbrev start : tie.After-may-begin → tie.Start
-start c = c .before .before
+start c = c .before .before .before
 
 abbrev desk : tie.Start → Desk
 desk s =
@@ -30,7 +30,7 @@ asked s = beginOf (desk s) (s .args .kind) (now (s .args .value)) (s .args .note
 
 -- the verdict is that of the begin
 judged : (c : tie.After-may-begin) → asked (start c) .verdict ≡ c .may-begin .result
-judged c = let a = start c .args in sym (c .may-begin .ensures (a .kind) (a .note))
+judged c = let a = start c .args in sym (c .may-begin .ensures (a .kind) (a .note) (now (a .value)) (c .before .of .ensures))
 
 -- one that may begin
 accepts : (c : tie.After-enum-told) →
@@ -45,8 +45,8 @@ may-begin-requires c κs = search needs
 enum-told : tie.Need-enum-told
 enum-told c = search needs
 
-add-t15 : tie.Need-add-t15
-add-t15 c = omega (arith, accepts c .1)
+add-t16 : tie.Need-add-t16
+add-t16 c = omega (arith, accepts c .1)
 
 of-requires : tie.Need-of-requires
 of-requires c κs = search needs
@@ -62,10 +62,10 @@ unturned-requires c κs = search needs
 
 returns : tie.Need-returns
 returns c =
-    let told = c .before .before in
+    let told = c .before in
     let s = start (told .before .before) in
     let next : s .args .round + 1 ≡ suc (s .args .round) = omega arith in
-    let made = c .begun .ensures ∙ ap (λ v. begunOperation (s .args .kind) v (s .args .note)) (c .before .of .ensures) in
+    let made = c .begun .ensures ∙ ap (λ v. begunOperation (s .args .kind) v (s .args .note)) (told .before .before .before .of .ensures) in
     ap₂ (λ k o. turnedOf (accepted (turned (desk s) k o))) next made ∙ sym (accepts told .0)
 
 returns-2 : tie.Need-returns-2
@@ -77,10 +77,10 @@ pub begin-in-spec : {M : Type 1} → statement M
 begin-in-spec =
     tie.close
     (tie.spec
+    of-requires
     may-begin-requires
     enum-told
-    add-t15
-    of-requires
+    add-t16
     begun-requires
     enum-known-r
     unturned-requires

@@ -1,13 +1,13 @@
 -- `may_begin` meets its contract: each test has its own answer.
 use native.Mathlib.Omega.{arith}
-use mathlib.Core.Path.{_≡_, sym, _∙_}
+use Prim.Native.Nat.{ℕ}
+use mathlib.Core.Path.{_≡_, sym, ap, _∙_}
 use mathlib.Core.Bool.{true, false}
+use mathlib.Core.List.{List}
 use borrow.Author.Needs.{needs}
-use borrow.Author.Tests.{eq-eqb, ne-eqb, lt-ltb, le-ltb, lt-leb, le-leb, not-true, not-false}
-use denote.Ref.{now}
+use borrow.Author.Tests.{eq-eqb, ne-eqb, lt-ltb, le-ltb, not-true, not-false}
 use lib.Dec.{eqb}
 use Rattle.replica.specs.Values.{valueFits, valueOf}
-use Rattle.replica.proofs.Values.{value-fits}
 use Rattle.desk.specs.declared.record.Desk.{Desk}
 use Rattle.desk.specs.Parts.{deskOf}
 use Rattle.desk.specs.Operations.{running}
@@ -24,7 +24,7 @@ desk s =
     deskOf (a .config) (a .number) (a .counts .now) (a .cells .now) (a .register) (a .round) (a .operation)
 
 abbrev start : tie.Else1 → tie.Start
-start c = c .before .before .before
+start c = c .before .before
 
 abbrev length-test : tie.Else3 → tie.Else2
 length-test c = c .before .before
@@ -34,10 +34,10 @@ length-test c = c .before .before
 sound : (c : tie.Else1) → fits (desk (start c)) ≡ true
 sound c = sym (c .before .fits-in .ensures) ∙ not-false _ (c .if1 .left)
 
-short : (c : tie.Else2) → valueFits (valueOf (now (start (c .before) .args .value))) ≡ true
-short c = value-fits _ ∙ le-leb _ _ (c .if2 .left)
+short : (c : tie.Else2) (v : List ℕ) → start (c .before .before) .args .value ≡ valueOf v → valueFits (valueOf v) ≡ true
+short c v e = ap valueFits (sym e) ∙ sym (c .before .fits2 .ensures) ∙ not-false _ (c .if2 .left)
 
-idle : (c : tie.Else3) → eqb (start (length-test c .before) .args .operation .mode) running ≡ false
+idle : (c : tie.Else3) → eqb (start (length-test c .before .before) .args .operation .mode) running ≡ false
 idle c = ne-eqb _ _ (c .if3 .left)
 
 fits-in-requires : tie.Need-fits-in-requires
@@ -45,34 +45,36 @@ fits-in-requires c κs = search needs
 
 returns : tie.Need-returns
 unfolding beginOf
-returns c kind note = simp (sym (c .before .fits-in .ensures) ∙ not-true _ (c .if1 .taken))
+returns c kind note v e = simp (sym (c .before .fits-in .ensures) ∙ not-true _ (c .if1 .taken))
 
-cast-if2 : tie.Need-cast-if2
-cast-if2 c = search needs
+fits-requires : tie.Need-fits-requires
+fits-requires c κs = search needs
 
 returns-2 : tie.Need-returns-2
 unfolding beginOf
-returns-2 c kind note = simp (sound (c .before), value-fits (now (start (c .before) .args .value)) ∙ lt-leb _ _ (c .if2 .taken))
+returns-2 c kind note v e =
+    let t = c .before in
+    simp (sound (t .before), ap valueFits (sym e) ∙ sym (t .fits2 .ensures) ∙ not-true _ (c .if2 .taken))
 
 returns-3 : tie.Need-returns-3
 unfolding beginOf startOf
-returns-3 c kind note =
+returns-3 c kind note v e =
     let test = c .before .before in
-    simp (sound (test .before), short test, eq-eqb _ _ (c .if3 .taken))
+    simp (sound (test .before .before), short test v e, eq-eqb _ _ (c .if3 .taken))
 
 returns-4 : tie.Need-returns-4
 unfolding beginOf startOf
-returns-4 c kind note =
+returns-4 c kind note v e =
     let test = length-test (c .before) in
-    simp (sound (test .before), short test, idle (c .before), le-ltb (start (test .before) .args .round) mostRound (omega (arith, c .if4 .taken)))
+    simp (sound (test .before .before), short test v e, idle (c .before), le-ltb (start (test .before .before) .args .round) mostRound (omega (arith, c .if4 .taken)))
 
 returns-5 : tie.Need-returns-5
 unfolding beginOf startOf
-returns-5 c kind note =
+returns-5 c kind note v e =
     let test = length-test (c .before) in
-    let s = start (test .before) in
-    simp (sound (test .before), short test, idle (c .before), lt-ltb (s .args .round) mostRound (omega (arith, c .if4 .left)))
+    let s = start (test .before .before) in
+    simp (sound (test .before .before), short test v e, idle (c .before), lt-ltb (s .args .round) mostRound (omega (arith, c .if4 .left)))
 
 pub may-begin-spec : {M : Type 1} → statement M
 may-begin-spec =
-    tie.close (tie.spec fits-in-requires returns cast-if2 returns-2 returns-3 returns-4 returns-5)
+    tie.close (tie.spec fits-in-requires returns fits-requires returns-2 returns-3 returns-4 returns-5)

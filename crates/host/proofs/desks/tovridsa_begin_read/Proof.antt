@@ -8,20 +8,16 @@ use borrow.Author.Needs.{needs}
 use Rattle.host.proofs.desks.tovridsa_begin_read.Statement.{statement}
 use Rattle.host.proofs.desks.tovridsa_begin_read.Tie as tie
 
-slice-aggregate-begin : tie.Need-slice-aggregate-begin
-slice-aggregate-begin c = search needs
-
-begin-requires : tie.Need-begin-requires
-begin-requires c κs = search needs
+reading-requires : tie.Need-reading-requires
+reading-requires c κs = search needs
 
 of-turned-requires : tie.Need-of-turned-requires
 of-turned-requires c κs = search needs
 
 returns : tie.Need-returns
 returns c =
-    let desk = c .before .before .before .args .desk in
-    c .of-turned .ensures ∙ ap (λ (t : Turned). deskCode (answerOf desk t)) (c .before .begin .ensures) ∙ ap deskCode (begin-whole desk _ _ _)
+    let desk = c .before .before .args .desk in
+    c .of-turned .ensures ∙ ap (λ (t : Turned). deskCode (answerOf desk t)) (c .before .reading .ensures) ∙ ap deskCode (begin-whole desk _ _ _)
 
 pub tovridsa-begin-read-spec : {M : Type 1} → statement M
-tovridsa-begin-read-spec =
-    tie.close (tie.spec slice-aggregate-begin begin-requires of-turned-requires returns)
+tovridsa-begin-read-spec = tie.close (tie.spec reading-requires of-turned-requires returns)

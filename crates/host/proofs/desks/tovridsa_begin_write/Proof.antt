@@ -8,8 +8,8 @@ use borrow.Author.Needs.{needs}
 use Rattle.host.proofs.desks.tovridsa_begin_write.Statement.{statement}
 use Rattle.host.proofs.desks.tovridsa_begin_write.Tie as tie
 
-begin-requires : tie.Need-begin-requires
-begin-requires c κs = search needs
+writing-requires : tie.Need-writing-requires
+writing-requires c κs = search needs
 
 of-turned-requires : tie.Need-of-turned-requires
 of-turned-requires c κs = search needs
@@ -17,7 +17,7 @@ of-turned-requires c κs = search needs
 returns : tie.Need-returns
 returns c =
     let desk = c .before .before .before .args .desk in
-    c .of-turned .ensures ∙ ap (λ (t : Turned). deskCode (answerOf desk t)) (c .before .begin .ensures) ∙ ap deskCode (begin-whole desk _ _ _)
+    c .of-turned .ensures ∙ ap (λ (t : Turned). deskCode (answerOf desk t)) (c .before .writing .ensures) ∙ ap deskCode (begin-whole desk _ _ _)
 
 pub tovridsa-begin-write-spec : {M : Type 1} → statement M
-tovridsa-begin-write-spec = tie.close (tie.spec begin-requires of-turned-requires returns)
+tovridsa-begin-write-spec = tie.close (tie.spec writing-requires of-turned-requires returns)
