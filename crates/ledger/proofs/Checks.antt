@@ -33,12 +33,13 @@ pub told-ledger : (c : Config) (l : Ledger) → bounded c l ≡ true → aboveFl
 unfolding fits
 told-ledger c l b a = rw b a
 
--- what an answer of `check` tells of a valid cluster
-pub check-told : (c : Config) (l : Ledger) → validOf c ≡ true → checkAnswer c l ≡ Verdict.Accepted → fits c l ≡ true
+-- what an answer of `check` tells
+pub check-told : (c : Config) (l : Ledger) → checkAnswer c l ≡ Verdict.Accepted → (validOf c ≡ true) × (fits c l ≡ true)
 unfolding checkAnswer fits
-check-told c l v e =
-    let b = chosen-first (bounded c l) _ _ _ (λ d. accepted-not-refused _ (sym d)) (rw v at e) in
-    rw (b .0) (chosen-first (aboveFloor c l) _ _ _ (λ d. accepted-not-refused _ (sym d)) (b .1) .0)
+check-told c l e =
+    let v = chosen-first (validOf c) _ _ _ (λ d. accepted-not-refused _ (sym d)) e in
+    let b = chosen-first (bounded c l) _ _ _ (λ d. accepted-not-refused _ (sym d)) (v .1) in
+    (v .0, rw (b .0) (chosen-first (aboveFloor c l) _ _ _ (λ d. accepted-not-refused _ (sym d)) (b .1) .0))
 
 pub check-refused : (c : Config) (l : Ledger) (r : Refusal) → validOf c ≡ true → checkAnswer c l ≡ Verdict.Refused r → fits c l ≡ false
 unfolding checkAnswer fits

@@ -135,51 +135,33 @@ pub record Adds (c : Config) (l : Ledger) (i j d : ℕ) : Type 0 where
   pub counted : countOf l i < mostCount
   pub spared : spares c l i d ≡ true
 
-add-cases : (P : Ledger → Type 0) (c : Config) (l : Ledger) (i j d : ℕ) → (Adds c l i j d → P (added l i j d)) → P l → P (addAnswer c l i j d .ledger)
+-- an answer is that of a transfer that has passed them, or a refusal beside the ledger as it was
+add-cases : (P : Changed → Type 0) (c : Config) (l : Ledger) (i j d : ℕ) → (Adds c l i j d → P (accepted (added l i j d))) → ((k : Refusal) → P (refused k l))
+    → P (addAnswer c l i j d)
 unfolding addAnswer giveAnswer
 add-cases P c l i j d done left =
     by-tests (serverOf c i) (fits c l) (lawful c i j d) (ltb (countOf l i) mostCount) (spares c l i d) refl refl refl refl refl
   where
     by-tests : (o f w t p : Bool) → serverOf c i ≡ o → fits c l ≡ f → lawful c i j d ≡ w → ltb (countOf l i) mostCount ≡ t → spares c l i d ≡ p
-        → P (cond o (cond f (cond w (cond t (cond p (accepted (added l i j d)) (refused (refusal 10) l)) (refused (refusal 12) l)) (refused (refusal 11) l)) (refused (refusal 1) l)) (refused (refusal 1) l) .ledger)
+        → P (cond o (cond f (cond w (cond t (cond p (accepted (added l i j d)) (refused (refusal 10) l)) (refused (refusal 12) l)) (refused (refusal 11) l)) (refused (refusal 1) l)) (refused (refusal 1) l))
     by-tests true true true true true a b e k g = done (record { one-of = a; sound = b; legal = e; counted = ltb-true _ _ k; spared = g })
-    by-tests true true true true false a b e k g = left
-    by-tests true true true false p a b e k g = left
-    by-tests true true false t p a b e k g = left
-    by-tests true false w t p a b e k g = left
-    by-tests false f w t p a b e k g = left
-
--- an accepted transfer has passed them and is added; a refused one leaves the ledger as it was
+    by-tests true true true true false a b e k g = left (refusal 10)
+    by-tests true true true false p a b e k g = left (refusal 12)
+    by-tests true true false t p a b e k g = left (refusal 11)
+    by-tests true false w t p a b e k g = left (refusal 1)
+    by-tests false f w t p a b e k g = left (refusal 1)
 
 module _ (c : Config) (l : Ledger) (i j d : ℕ) where
-  AddsOrLeaves : Changed → Type 0
-  AddsOrLeaves x = (x .verdict ≡ Verdict.Accepted → Adds c l i j d × (x .ledger ≡ added l i j d)) × ((r : Refusal) → x .verdict ≡ Verdict.Refused r → x .ledger ≡ l)
-
-  leaves : (k : Refusal) → AddsOrLeaves (refused k l)
-  unfolding AddsOrLeaves
-  leaves k = (λ e. accepted-not-refused k (sym e), λ r e. refl)
-
-  adds-or-leaves : AddsOrLeaves (addAnswer c l i j d)
-  unfolding addAnswer giveAnswer AddsOrLeaves
-  adds-or-leaves = by-tests (serverOf c i) (fits c l) (lawful c i j d) (ltb (countOf l i) mostCount) (spares c l i d) refl refl refl refl refl
-    where
-      by-tests : (o f w t p : Bool) → serverOf c i ≡ o → fits c l ≡ f → lawful c i j d ≡ w → ltb (countOf l i) mostCount ≡ t → spares c l i d ≡ p
-          → AddsOrLeaves (cond o (cond f (cond w (cond t (cond p (accepted (added l i j d)) (refused (refusal 10) l)) (refused (refusal 12) l)) (refused (refusal 11) l)) (refused (refusal 1) l)) (refused (refusal 1) l))
-      by-tests true true true true true a b e k g =
-          (λ z. (record { one-of = a; sound = b; legal = e; counted = ltb-true _ _ k; spared = g }, refl), λ r z. accepted-not-refused r z)
-      by-tests true true true true false a b e k g = leaves (refusal 10)
-      by-tests true true true false p a b e k g = leaves (refusal 12)
-      by-tests true true false t p a b e k g = leaves (refusal 11)
-      by-tests true false w t p a b e k g = leaves (refusal 1)
-      by-tests false f w t p a b e k g = leaves (refusal 1)
-
+  -- so an accepted transfer has passed them and is added
   pub add-told : addAnswer c l i j d .verdict ≡ Verdict.Accepted → Adds c l i j d × (addAnswer c l i j d .ledger ≡ added l i j d)
-  unfolding AddsOrLeaves
-  add-told = adds-or-leaves .0
+  add-told =
+      add-cases (λ x. x .verdict ≡ Verdict.Accepted → Adds c l i j d × (x .ledger ≡ added l i j d)) c l i j d (λ g e. (g, refl))
+      (λ k e. accepted-not-refused k (sym e))
 
+  -- and a refused one leaves the ledger as it was
   pub add-left : (r : Refusal) → addAnswer c l i j d .verdict ≡ Verdict.Refused r → addAnswer c l i j d .ledger ≡ l
-  unfolding AddsOrLeaves
-  add-left = adds-or-leaves .1
+  add-left r =
+      add-cases (λ x. x .verdict ≡ Verdict.Refused r → x .ledger ≡ l) c l i j d (λ g e. accepted-not-refused r e) (λ k e. refl)
 
   -- on a ledger that fits the verdict is that of the tests of a transfer
   pub add-gives : serverOf c i ≡ true → fits c l ≡ true → giveVerdict c i j d (countOf l i) (spares c l i d) ≡ addAnswer c l i j d .verdict
@@ -196,7 +178,7 @@ module _ (c : Config) (l : Ledger) (i j d : ℕ) where
 
 -- A ledger that fits still does, whatever is asked.
 pub add-fits : (c : Config) (l : Ledger) (i j d : ℕ) → Typed l → fits c l ≡ true → fits c (addAnswer c l i j d .ledger) ≡ true
-add-fits c l i j d t f = add-cases (λ x. fits c x ≡ true) c l i j d given f
+add-fits c l i j d t f = add-cases (λ x. fits c (x .ledger) ≡ true) c l i j d given (λ k. f)
   where
     given : Adds c l i j d → fits c (added l i j d) ≡ true
     given g =
@@ -207,7 +189,7 @@ add-fits c l i j d t f = add-cases (λ x. fits c x ≡ true) c l i j d given f
 
 -- And it is still one that a call can have.
 pub add-typed : (c : Config) (l : Ledger) (i j d : ℕ) → Typed l → Typed (addAnswer c l i j d .ledger)
-add-typed c l i j d t = add-cases Typed c l i j d given t
+add-typed c l i j d t = add-cases (λ x. Typed (x .ledger)) c l i j d given (λ k. t)
   where
     given : Adds c l i j d → Typed (added l i j d)
     given g =

@@ -5,6 +5,7 @@ use mathlib.Core.Path.{_≡_, refl, ap, ap₂, _∙_}
 use mathlib.Core.Logic.{⊎-elim}
 use mathlib.Core.List.{List}
 use borrow.Author.Tests.{lt-ltb, le-ltb}
+use lib.Dec.{ltb}
 use lib.ListN.{length, getD, set, replicate}
 use Rattle.quorums.specs.Sum.{sum}
 use Rattle.quorums.proofs.Sums.{sum-next, sum-same}
@@ -16,7 +17,8 @@ use Rattle.ledger.specs.Tables.{table}
 use Rattle.ledger.specs.Sums.{Sums, under, receivedFrom, givenBelow, rowFaults}
 use Rattle.ledger.proofs.Tables.{is-table, table-at, table-length}
 use Rattle.ledger.proofs.Rows.{part, in-row}
-use Rattle.ledger.proofs.Tallies.{Tallied, tally-none, tally-next, zeros-at, bounded, sum-most}
+use Rattle.ledger.proofs.Tallies.{Tallied, tally-none, tally-next, zeros-at, bounded, sum-most, sums-small}
+use Rattle.ledger.proofs.Weights.{counts-most}
 
 pub record Summed (l : Ledger) (zeros received given : List ℕ) (faults i : ℕ) : Type 0 where
   pub counted : faults ≡ sum i (rowFaults l)
@@ -85,17 +87,10 @@ module _ (l : Ledger) (typed : (k : ℕ) → getD (l .cells) k 0 ≤ 4294967295)
         (λ (b : k < n). rw (lt-ltb k n b) (omega (arith, s .gives .done k b, zeros-at blank k g)))
         (le-or-lt n k))
 
-    pub received-sums : Sums 68719476720 received
-    received-sums = record { size = s .size; small = bounded received 68719476720 (s .size) (λ k g. omega (arith, s .takes k g, received-small n k)) }
+    pub summed-received-small : Sums 68719476720 received
+    summed-received-small = rw summed-received (sums-small (receivedFrom n l) (λ k. omega (arith, received-small n k)))
 
-    pub given-sums : Sums 68719476720 given
-    given-sums =
-        record {
-          size = s .gives .size;
-          small =
-              bounded given 68719476720 (s .gives .size)
-              (λ k g.
-              ⊎-elim (λ (b : n ≤ k). omega (arith, s .gives .left k b, zeros-at blank k g))
-              (λ (b : k < n). omega (arith, s .gives .done k b, zeros-at blank k g, given-small k))
-              (le-or-lt n k));
-        }
+    pub summed-given-small : Sums 68719476720 given
+    unfolding givenBelow
+    summed-given-small =
+        rw summed-given (sums-small (givenBelow n l) (λ k. omega (arith, counts-most (ltb k n) (givenOf l k), given-small k)))

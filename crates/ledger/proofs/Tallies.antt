@@ -11,7 +11,8 @@ use Rattle.quorums.specs.Sum.{sum}
 use Rattle.quorums.proofs.Tests.{le-or-lt}
 use Rattle.quorums.proofs.Sums.{below-suc, sum-extend, sum-le, sum-const}
 use Rattle.ledger.specs.Tables.{table}
-use Rattle.ledger.proofs.Tables.{is-table, table-same}
+use Rattle.ledger.specs.Sums.{Sums}
+use Rattle.ledger.proofs.Tables.{is-table, table-same, table-length, table-at}
 
 -- ys is xs with f k added at each k below j
 pub record Tallied (f : ℕ → ℕ) (xs ys : List ℕ) (j : ℕ) : Type 0 where
@@ -73,3 +74,11 @@ bounded l most e h k = ⊎-elim (λ (g : 16 ≤ k). rw (List·getD-eq-default l 
 -- n cells come to at most n times the largest
 pub sum-most : (n : ℕ) (f : ℕ → ℕ) → ((k : ℕ) → f k ≤ 4294967295) → sum n f ≤ n * 4294967295
 sum-most n f h = omega (arith, sum-le n f (λ k. 4294967295) (λ k l. h k), sum-const n 4294967295)
+
+-- so 16 sums that are each small are small together
+pub sums-small : (f : ℕ → ℕ) → ((k : ℕ) → f k ≤ 68719476720) → Sums 68719476720 (table 16 f)
+sums-small f h =
+    record {
+      size = table-length 16 f;
+      small = bounded (table 16 f) 68719476720 (table-length 16 f) (λ k g. omega (arith, table-at 16 f k g, h k));
+    }

@@ -1,7 +1,7 @@
 -- Weights and quorums from what each server received and gave: as the program computes them, and as they are on a ledger.
 use Prim.Native.Nat.{ℕ, _+_, _*_, _/_, _%_, _^_, _≤_, _<_}
 use native.Mathlib.Omega.{arith}
-use mathlib.Core.Path.{_≡_, refl, sym, ap, ap₂, _∙_, subst}
+use mathlib.Core.Path.{_≡_, refl, sym, ap, ap₂, _∙_}
 use mathlib.Core.Bool.{Bool, true, false, cond}
 use mathlib.Core.List.{List}
 use borrow.Author.Tests.{eq-eqb, ne-eqb, lt-ltb}
@@ -25,10 +25,9 @@ use Rattle.ledger.specs.Maps.{named}
 use Rattle.ledger.specs.Weights.{weightOf, quorumOf}
 use Rattle.ledger.specs.Checks.{bounded, aboveFloor}
 use Rattle.ledger.specs.Tables.{table}
-use Rattle.ledger.proofs.Tables.{table-length, table-at}
+use Rattle.ledger.proofs.Tables.{table-at}
 use Rattle.ledger.specs.Sums.{accountsIn, allAbove, Sums, Weighs, receivedFrom, givenBelow}
-use Rattle.ledger.proofs.Tallies.{sum-most}
-use Rattle.ledger.proofs.Tallies as tallies
+use Rattle.ledger.proofs.Tallies.{sum-most, sums-small}
 use Rattle.ledger.proofs.Faults.{from-all}
 
 -- ---- answers
@@ -115,9 +114,6 @@ sums-quorum c l m v =
     at f i k = table-at 16 f i (omega (arith, valid-bounds c v .most))
 
 -- The sums of a ledger that a call can have are small.
-pub sums-small : (f : ℕ → ℕ) → ((i : ℕ) → f i ≤ 68719476720) → Sums 68719476720 (table 16 f)
-sums-small f h = record { size = table-length 16 f; small = tallies.bounded (table 16 f) 68719476720 (table-length 16 f) (λ k l. subst (λ x. x ≤ 68719476720) (sym (table-at 16 f k l)) (h k)) }
-
 pub received-sums : (l : Ledger) → Typed l → Sums 68719476720 (table 16 (receivedOf l))
 unfolding receivedOf
 received-sums l t = sums-small (receivedOf l) (λ i. sum-most 16 (λ j. cellOf l j i) (λ j. t .cell-fits (j * 16 + i)))

@@ -56,7 +56,7 @@ pub fn add_lent(
 
 // One transfer more in the giver's count and in its cell for the taker.
 fn put(counts: &mut [u16], cells: &mut [u32], giver: usize, taker: usize, amount: u32)
-    requires { ⌜ (giver < length (now counts)) × (giver * 16 + taker < length (now cells)) × (giver < 16) × (taker < 16) × (getD (now counts) giver 0 < 65535) × (getD (now cells) (giver * 16 + taker) 0 + amount ≤ 4294967295) ⌝ }
+    requires { ⌜ (length (now counts) ≡ 16) × (length (now cells) ≡ 256) × (giver < 16) × (taker < 16) × (getD (now counts) giver 0 < 65535) × (getD (now cells) (giver * 16 + taker) 0 + amount ≤ 4294967295) ⌝ }
     ensures { λ r. ⌜ (now (counts .exit) ≡ set (now (counts .entry)) giver (getD (now (counts .entry)) giver 0 + 1)) × (now (cells .exit) ≡ set (now (cells .entry)) (giver * 16 + taker) (getD (now (cells .entry)) (giver * 16 + taker) 0 + amount)) ⌝ }
 {
     counts[giver] = counts[giver] + 1;

@@ -7,7 +7,7 @@ use mathlib.Core.Bool.{Bool, true, false, cond}
 use mathlib.Core.List.{List}
 use borrow.Author.Tests.{ltb-true, eq-eqb}
 use lib.Dec.{ltb}
-use Rattle.quorums.proofs.Tests.{test-false}
+use Rattle.quorums.proofs.Tests.{both, test-false}
 use Rattle.config.specs.Cluster.{validOf}
 use Rattle.config.specs.declared.cluster.Config.{Config}
 use Rattle.config.specs.declared.answer.Number.{Number}
@@ -64,14 +64,9 @@ module _ (c : Config) (e : Envelope) (r : Replica) where
 
   pub fault-sends-none : (faultOf c e r ≡ 0 → ⊥) → (out : List ℕ) (at : ℕ) → record { answer = Number.Refused (refusal 1); out = out } ≡ sendOf c e r out at
   unfolding sendOf
-  fault-sends-none some out at = by-tests (lawful c e) (fits c r) refl refl
-    where
-      by-tests : (l f : Bool) → lawful c e ≡ l → fits c r ≡ f
-          → record { answer = Number.Refused (refusal 1); out = out }
-          ≡ cond l (cond f (place (messageOf c e r) out at) (record { answer = Number.Refused (refusal 1); out = out })) (record { answer = Number.Refused (refusal 1); out = out })
-      by-tests true true a b = absurd (some (no-fault a b))
-      by-tests true false a b = refl
-      by-tests false f a b = refl
+  fault-sends-none some out at =
+      let unsent = test-false (cond (lawful c e) (fits c r) false) (λ t. let told = both (lawful c e) _ t in some (no-fault (told .0) (told .1))) in
+      simp unsent
 
   -- with a lawful envelope that is the test of the replica, and then the message
   pub sends-held : lawful c e ≡ true → (out : List ℕ) (at : ℕ)

@@ -1,4 +1,5 @@
--- The reader's number for the bytes of an envelope and a replica, found without the bytes. `Faults` in proofs/ shows that it is `check`.
+-- The reader's number for the bytes of an envelope and a replica, found without the bytes, and what a party sends of what it holds. `Faults` in proofs/ shows that
+-- the number is `check`.
 use Prim.Native.Nat.{ℕ}
 use mathlib.Core.Path.{_≡_}
 use mathlib.Core.Bool.{Bool, true, false, cond, not}
@@ -41,8 +42,7 @@ faultOf c e r =
 -- What a party sends of what it holds, by its own record test: 1 where the envelope is not lawful or the replica does not fit, then 13; else the place after the message.
 unfoldable pub sendOf : Config → Envelope → Replica → List ℕ → ℕ → Written
 sendOf c e r out at =
-    cond (lawful c e) (cond (fits c r) (place (messageOf c e r) out at) (record { answer = Number.Refused (refusal 1); out = out }))
-    (record { answer = Number.Refused (refusal 1); out = out })
+    cond (cond (lawful c e) (fits c r) false) (place (messageOf c e r) out at) (record { answer = Number.Refused (refusal 1); out = out })
 
 -- What is known of the envelope and the replica of a message that has passed its checks.
 pub record Passed (c : Config) (e : Envelope) (r : Replica) : Type 0 where

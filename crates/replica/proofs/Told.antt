@@ -11,7 +11,7 @@ use Rattle.ledger.specs.declared.ledger.Changed.{Changed}
 use Rattle.ledger.specs.Ledgers.{accepted, refused}
 use Rattle.ledger.specs.Checks.{bounded, aboveFloor, checkAnswer}
 use Rattle.ledger.specs.Joins.{joins, joined, mergeAnswer}
-use Rattle.ledger.proofs.Checks.{accepted-not-refused}
+use Rattle.ledger.proofs.Checks.{accepted-not-refused, check-told, ledger-told}
 use Rattle.replica.specs.declared.replica.Replica.{Replica}
 use Rattle.replica.specs.declared.replica.Joined.{Joined}
 use Rattle.replica.specs.Registers.{registerFits}
@@ -23,14 +23,11 @@ checked v b f = cond v (cond b (cond f Verdict.Accepted (Verdict.Refused (refusa
 
 -- a replica whose ledger passes the check fits where its register does
 pub passed-fits : (c : Config) (r : Replica) → checkAnswer c (r .ledger) ≡ Verdict.Accepted → registerFits c (r .register) ≡ fits c r
-unfolding fits checkAnswer
-passed-fits c r e = by-tests (validOf c) (bounded c (r .ledger)) (aboveFloor c (r .ledger)) e
-  where
-    by-tests : (v b f : Bool) → checked v b f ≡ Verdict.Accepted → registerFits c (r .register) ≡ cond v (cond b (cond f (registerFits c (r .register)) false) false) false
-    by-tests true true true d = refl
-    by-tests true true false d = accepted-not-refused _ (sym d)
-    by-tests true false f d = accepted-not-refused _ (sym d)
-    by-tests false b f d = accepted-not-refused _ (sym d)
+unfolding fits
+passed-fits c r e =
+    let t = check-told c (r .ledger) e in
+    let l = ledger-told c (r .ledger) (t .1) in
+    rw (t .0, l .0, l .1) refl
 
 -- and one whose ledger does not pass it does not fit
 pub refused-fits : (c : Config) (r : Replica) (k : Refusal) → checkAnswer c (r .ledger) ≡ Verdict.Refused k → false ≡ fits c r

@@ -1,6 +1,6 @@
 -- Rows as the loops see them: a row is a part of the cells. Where every row whose count is 0 is empty, it stands where its count does, and has no bytes
 -- elsewhere.
-use Prim.Native.Nat.{ℕ, _+_, _*_, _-_, _≤_}
+use Prim.Native.Nat.{ℕ, _+_, _*_, _≤_}
 use native.Mathlib.Numerals.{add-one}
 use native.Mathlib.Omega.{arith}
 use mathlib.Core.Path.{_≡_, refl, sym, ap, _∙_}

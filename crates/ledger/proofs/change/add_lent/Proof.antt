@@ -66,7 +66,7 @@ put-requires c κs =
     let counts : length (s .args .counts .now) ≡ 16 = search needs in
     let cells : length (s .args .cells .now) ≡ 256 = search needs in
     let r = room (passed c) in
-    (omega (arith, r .0), omega (arith, r .0, r .1), r .0, r .1, told (passed c) .0 .counted, r .3)
+    (counts, cells, r .0, r .1, told (passed c) .0 .counted, r .3)
 
 enum-known-r : tie.Need-enum-known-r
 enum-known-r c = search needs

@@ -47,7 +47,7 @@ valid c = server-valid _ _ (has c)
 sound : (c : tie.After-enum-told) → fits (entry c .args .config) (ledger (entry c)) ≡ true
 sound c =
     let w = weighed c in
-    check-told _ (ledger (entry c)) (valid (one-of w) .0) (sym (w .weigh .ensures .0) ∙ c .enum-told .given .1)
+    check-told _ (ledger (entry c)) (sym (w .weigh .ensures .0) ∙ c .enum-told .given .1) .1
 
 sums : (c : tie.After-enum-told) → Weighs (entry c .args .config) (ledger (entry c)) (weighed c .weigh .last .1 .1 .1 .0) (weighed c .weigh .last .1 .1 .1 .1 .0)
 sums c = weighed c .weigh .ensures .1 (c .enum-told .given .1)

@@ -7,7 +7,7 @@ use denote.Ref.{now}
 use lib.ListN.{getD}
 use Rattle.ledger.specs.declared.ledger.Ledger.{Ledger}
 use Rattle.ledger.specs.Ledgers.{ledgerOf}
-use Rattle.ledger.proofs.Summed.{Summed, summed-none, summed-room, summed-next, summed-received, summed-given, received-sums, given-sums}
+use Rattle.ledger.proofs.Summed.{Summed, summed-none, summed-room, summed-next, summed-received, summed-given, summed-received-small, summed-given-small}
 use Rattle.ledger.proofs.sums.tally.Statement.{statement}
 use Rattle.ledger.proofs.sums.tally.Tie as tie
 
@@ -125,8 +125,8 @@ returns c =
       omega (arith, s .few, most),
       summed-received (ledger l) all most blank s,
       summed-given (ledger l) all most blank s,
-      received-sums (ledger l) all most blank s,
-      given-sums (ledger l) all most blank s,
+      summed-received-small (ledger l) all most blank s,
+      summed-given-small (ledger l) all most blank s,
     )
 
 pub tally-spec : {M : Type 1} → statement M
