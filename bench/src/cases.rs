@@ -4,7 +4,7 @@ use crate::implementation::{Implementation, ALL};
 use crate::machine::Model;
 use crate::messages;
 use crate::native;
-use crate::scene::{self, written, Cluster, Scene, NOTE, ROOM};
+use crate::scene::{self, accepted, written, Cluster, Scene, NOTE, ROOM};
 use crate::store::Store;
 use model::calls::Calls;
 use std::hint::black_box;
@@ -140,7 +140,11 @@ fn messages() -> Vec<Case> {
 enum Call {
     /// A request of a read in its first phase, which brings the server nothing new: it is joined, and the reply carries all that the server holds.
     Serve,
-    /// The reply to it, which marks the server that sent it and brings nothing new.
+    /// A request with a transfer that the server has not heard of, on a copy of the record: its row is taken, and the reply carries it.
+    ServeNewer,
+    /// The same request to a server that was told another transfer of that number: it is refused (6).
+    ServeClash,
+    /// The reply to the first one, which marks the server that sent it and brings nothing new.
     Hear,
     Ask,
     Share,
@@ -151,12 +155,15 @@ enum Call {
     Result,
 }
 
-/// What a call is made on: the cluster after its first write, a desk that has begun a read, and the request and the reply of server 0.
+/// What a call is made on: the cluster after its first write, a desk that has begun a read, and the request and the reply of server 0; a request to it
+/// from a desk that has heard of one transfer more, and server 0 where it was told another transfer in the place of that one.
 struct Stage<S: Store> {
     cluster: Cluster<S>,
     reading: S::Desk,
     request: Vec<u8>,
     reply: Vec<u8>,
+    newer: Vec<u8>,
+    misled: S::Server,
     value: Vec<u8>,
 }
 
@@ -171,13 +178,45 @@ impl<S: Store> Stage<S> {
         let request = room[..end].to_vec();
         let (_, end) = store.serve(&mut cluster.servers[0], &request, &mut room, 0);
         let reply = room[..end].to_vec();
+        let newer = Self::newer(&cluster, &reading);
+        let misled = Self::misled(&cluster);
         Stage {
             cluster,
             reading,
             request,
             reply,
+            newer,
+            misled,
             value: scene.value.clone(),
         }
+    }
+
+    /// A request to server 0 from a desk to which server 1 told a transfer that it has just made.
+    fn newer(cluster: &Cluster<S>, reading: &S::Desk) -> Vec<u8> {
+        let store = &cluster.store;
+        let mut room = [0; ROOM];
+        let mut told = [0; ROOM];
+        let mut giver = cluster.servers[1].clone();
+        let mut desk = reading.clone();
+        accepted(store.transfer(&mut giver, 2, 1));
+        let end = written(store.ask(&desk, 1, &mut room, 0));
+        let (answer, end) = store.serve(&mut giver, &room[..end], &mut told, 0);
+        accepted(answer);
+        accepted(store.hear(&mut desk, &told[..end]));
+        let end = written(store.ask(&desk, 0, &mut room, 0));
+        room[..end].to_vec()
+    }
+
+    /// Server 0 once server 1 has told it a transfer to another server.
+    fn misled(cluster: &Cluster<S>) -> S::Server {
+        let store = &cluster.store;
+        let mut room = [0; ROOM];
+        let mut giver = cluster.servers[1].clone();
+        let mut server = cluster.servers[0].clone();
+        accepted(store.transfer(&mut giver, 3, 1));
+        let end = written(store.share(&giver, &mut room, 0));
+        accepted(store.serve(&mut server, &room[..end], &mut [], 0).0);
+        server
     }
 
     /// How many bytes the call reads, or else writes.
@@ -186,6 +225,7 @@ impl<S: Store> Stage<S> {
         let store = &self.cluster.store;
         match call {
             Call::Serve => self.request.len(),
+            Call::ServeNewer | Call::ServeClash => self.newer.len(),
             Call::Hear => self.reply.len(),
             Call::Ask => self.request.len(),
             Call::Share => written(store.share(&self.cluster.servers[0], &mut room, 0)),
@@ -205,6 +245,14 @@ impl<S: Store> Stage<S> {
             Call::Serve => {
                 let (answer, end) = store.serve(&mut server, &self.request, &mut out, 0);
                 answer + end as i64
+            }
+            Call::ServeNewer => {
+                let (answer, end) = store.serve(&mut server, &self.newer, &mut out, 0);
+                answer + end as i64
+            }
+            Call::ServeClash => {
+                server = self.misled.clone();
+                store.serve(&mut server, &self.newer, &mut out, 0).0
             }
             Call::Hear => store.hear(&mut desk, &self.reply),
             Call::Ask => store.ask(&desk, 0, &mut out, 0),
@@ -237,6 +285,8 @@ impl<S: Store> Stage<S> {
             mut reading,
             request,
             reply,
+            newer,
+            mut misled,
             value,
         } = self;
         let store = cluster.store;
@@ -250,6 +300,23 @@ impl<S: Store> Stage<S> {
                     store.serve(
                         black_box(&mut server),
                         black_box(&request),
+                        black_box(&mut out),
+                        0,
+                    )
+                }),
+                Call::ServeNewer => each(times, || {
+                    let mut copy = black_box(&server).clone();
+                    store.serve(
+                        black_box(&mut copy),
+                        black_box(&newer),
+                        black_box(&mut out),
+                        0,
+                    )
+                }),
+                Call::ServeClash => each(times, || {
+                    store.serve(
+                        black_box(&mut misled),
+                        black_box(&newer),
                         black_box(&mut out),
                         0,
                     )
@@ -299,6 +366,8 @@ fn records(scene: fn() -> Scene) -> Vec<Case> {
     };
     vec![
         case("serve", Call::Serve, native::CORE),
+        case("serve, newer rows", Call::ServeNewer, native::CORE),
+        case("serve, clash", Call::ServeClash, native::CORE),
         case("hear", Call::Hear, native::CORE),
         case("hear on a lent record", Call::Hear, native::LENT),
         case("ask", Call::Ask, native::CORE),

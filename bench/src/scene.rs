@@ -117,7 +117,7 @@ impl<S: Store> Cluster<S> {
     }
 }
 
-fn accepted(answer: i64) {
+pub fn accepted(answer: i64) {
     assert_eq!(answer, 0, "the call is accepted");
 }
 
