@@ -22,7 +22,7 @@ use Rattle.desk.specs.declared.begin.Turned.{Turned}
 use Rattle.desk.specs.declared.record.Desk.{Desk}
 use Rattle.desk.specs.declared.record.DeskAnswer.{DeskAnswer}
 use Rattle.desk.specs.Operations.{running, reading, writing, noOperation, begunOperation, phaseLawful}
-use Rattle.desk.specs.Desks.{mostRound, fits, accepted, refused, turned, Typed}
+use Rattle.desk.specs.Desks.{mostRound, fits, accepted, refused, Typed}
 use Rattle.desk.specs.Begins.{begun, startOf, beginOf, dropped, dropOf, turnedOf, answerOf, unturned}
 use Rattle.desk.proofs.Operations.{told-operation, mode-later, kind-fits, none-answered, none-fits, none-typed}
 use Rattle.desk.proofs.Desks.{fits-told, told-fits, fits-valid}

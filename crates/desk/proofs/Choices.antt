@@ -1,5 +1,5 @@
 -- The register that phase 1 chooses: one that a desk may hold, with a tag that is not below the one that was held.
-use Prim.Native.Nat.{suc, _≤_, _<_}
+use Prim.Native.Nat.{ℕ, suc, _≤_, _<_}
 use native.Mathlib.Omega.{arith}
 use mathlib.Core.Path.{_≡_, refl}
 use mathlib.Core.Bool.{Bool, true, false, cond, true≢false}
@@ -7,13 +7,14 @@ use borrow.Author.Tests.{eq-eqb, ne-eqb, eqb-true, lt-ltb, le-ltb, ltb-true, ltb
 use lib.Dec.{eqb}
 use Rattle.quorums.proofs.Tests.{chosen-second}
 use Rattle.config.specs.Cluster.{stampBytes, mostStamp}
+use Rattle.config.specs.declared.cluster.Config.{Config}
 use Rattle.replica.specs.declared.register.Register.{Register}
 use Rattle.replica.specs.Registers.{below, registerFits, Typed as TypedRegister}
 use Rattle.replica.proofs.Registers.{tagged-fits}
 use Rattle.desk.specs.declared.record.Desk.{Desk}
 use Rattle.desk.specs.Operations.{writing}
 use Rattle.desk.specs.Desks.{fits, Typed}
-use Rattle.desk.specs.Hears.{noStamp, chosenOf}
+use Rattle.desk.specs.Hears.{noStampIn, noStamp, chosenOf}
 use Rattle.desk.proofs.Operations.{operation-told}
 use Rattle.desk.proofs.Desks.{fits-told, number-told}
 
@@ -30,13 +31,12 @@ chosen-either P x r w h = by-test (eqb (x .operation .kind) writing) refl
     by-test false e = h
 
 -- a write has a stamp left
-has-stamp : (x : Desk) (r : Register) → noStamp x r ≡ false → x .operation .kind ≡ writing → r .stamp < mostStamp (x .config)
-unfolding noStamp
-has-stamp x r e w = ltb-true (r .stamp) (mostStamp (x .config)) (not-false _ (rw (eq-eqb (x .operation .kind) writing w) at e))
+has-stamp : (c : Config) (kind : ℕ) (r : Register) → noStampIn c kind r ≡ false → kind ≡ writing → r .stamp < mostStamp c
+has-stamp c kind r e w = ltb-true (r .stamp) (mostStamp c) (not-false _ (rw (eq-eqb kind writing w) at e))
 
-pub stamp-left : (x : Desk) (r : Register) → noStamp x r ≡ false → x .operation .kind ≡ writing → r .stamp < 4294967295
+pub stamp-left : (c : Config) (kind : ℕ) (r : Register) → noStampIn c kind r ≡ false → kind ≡ writing → r .stamp < 4294967295
 unfolding mostStamp stampBytes
-stamp-left x r e w = has-stamp x r e w
+stamp-left c kind r e w = has-stamp c kind r e w
 
 written-fits : (x : Desk) (r : Register) → fits x ≡ true → r .stamp < mostStamp (x .config) → registerFits (x .config) (written x r) ≡ true
 written-fits x r e left =
@@ -50,13 +50,16 @@ written-fits x r e left =
 
 pub chosen-fits : (x : Desk) (r : Register) → fits x ≡ true → noStamp x r ≡ false → registerFits (x .config) r ≡ true
     → registerFits (x .config) (chosenOf x r) ≡ true
-chosen-fits x r e s h = chosen-either (λ g. registerFits (x .config) g ≡ true) x r (λ w. written-fits x r e (has-stamp x r s w)) h
+unfolding noStamp
+chosen-fits x r e s h =
+    chosen-either (λ g. registerFits (x .config) g ≡ true) x r (λ w. written-fits x r e (has-stamp (x .config) (x .operation .kind) r s w)) h
 
 pub chosen-typed : (x : Desk) (r : Register) → Typed x → fits x ≡ true → noStamp x r ≡ false → TypedRegister r → TypedRegister (chosenOf x r)
+unfolding noStamp
 chosen-typed x r t e s h =
     chosen-either TypedRegister x r
     (λ w. record {
-      stamp-fits = stamp-left x r s w;
+      stamp-fits = stamp-left (x .config) (x .operation .kind) r s w;
       desk-fits = number-told (x .number) (fits-told x e .number-in) .1;
       value-typed = t .operation-typed .value-typed;
     })

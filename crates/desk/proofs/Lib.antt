@@ -1,7 +1,6 @@
--- Laws: operations and desks, the published rule of a desk's record, begin and drop, requests, results, and hearing a reply. `Ranges` is for what a call
--- knows of its arguments, `Marks` for the map of the servers that answered, `Choices` for what phase 1 chooses, `Heeded` for what hearing a message comes
--- to, `Told` for what answers tell, `Done` for what is accepted.
-pub mod Ranges
+-- Laws: operations and desks, the published rule of a desk's record, begin and drop, requests, results, and hearing a reply. `Marks` is for the map of the
+-- servers that answered, `Choices` for what phase 1 chooses, `Heeded` for what hearing a message comes to, `Told` for what answers tell, `Done` for what is
+-- accepted, `Hearings` for hear on the parts of a record, `Answers` for what that hands back.
 pub mod Operations
 pub mod Desks
 pub mod Published
@@ -14,3 +13,5 @@ pub mod Heeded
 pub mod Told
 pub mod Hears
 pub mod Done
+pub mod Hearings
+pub mod Answers

@@ -4,17 +4,13 @@ use native.Mathlib.Omega.{arith}
 use mathlib.Core.Path.{_≡_, refl, sym, ap, _∙_}
 use mathlib.Core.Logic.{⊎-elim}
 use mathlib.Core.Bool.{Bool, true, false, cond}
-use mathlib.Core.List.{[]}
 use borrow.Author.Tests.{eq-eqb, eqb-true, eqb-false, lt-ltb}
 use lib.Dec.{eqb}
 use Rattle.quorums.proofs.Tests.{le-or-lt}
 use Rattle.format.specs.Bytes.{bit}
 use Rattle.format.proofs.Marks.{bit-first}
 use Rattle.config.specs.declared.cluster.Config.{Config}
-use Rattle.ledger.specs.declared.ledger.Ledger.{Ledger}
-use Rattle.ledger.specs.Ledgers.{ledgerOf, receivedOf, givenOf}
 use Rattle.ledger.specs.Maps.{named, mapOf}
-use Rattle.ledger.specs.Weights.{quorumOf}
 use Rattle.ledger.proofs.Maps.{map-valid, named-next}
 use Rattle.desk.specs.Hears.{marked}
 
@@ -91,8 +87,3 @@ marked-small n m i l h = by-test (named m i) refl
 pub marked-map : (c : Config) (m i : ℕ) → i < c .n → mapOf c m ≡ true → mapOf c (marked m i) ≡ true
 unfolding mapOf
 marked-map c m i l e = let v = map-valid c m e in rw (v .0) (lt-ltb (marked m i) (2 ^ c .n) (marked-small (c .n) m i l (v .1)))
-
--- whether a map is a quorum is a matter of the cells of a ledger
-pub counted-cells : (c : Config) (l : Ledger) (m : ℕ) → quorumOf c (ledgerOf [] (l .cells)) m ≡ quorumOf c l m
-unfolding quorumOf receivedOf givenOf
-counted-cells c l m = refl

@@ -1,13 +1,11 @@
--- What the answers of the parts of a call tell: of a join, of a server that is marked, and of hear at each of its tests.
+-- What the answers of the parts of a call tell: of a join, and of hear at each of its tests.
 use Prim.Native.Nat.{ℕ}
 use mathlib.Core.Path.{_≡_, refl}
 use mathlib.Core.Bool.{Bool, true, false, cond, not}
 use mathlib.Core.List.{List}
-use borrow.Author.Tests.{eq-eqb, ne-eqb}
 use Rattle.config.specs.Refusals.{refusal}
 use Rattle.config.specs.declared.answer.Refusal.{Refusal}
 use Rattle.config.specs.declared.answer.Verdict.{Verdict}
-use Rattle.ledger.specs.Weights.{quorumOf}
 use Rattle.ledger.specs.Joins.{lacks}
 use Rattle.message.specs.declared.envelope.Envelope.{Envelope}
 use Rattle.message.specs.declared.answer.Received.{Received}
@@ -16,8 +14,7 @@ use Rattle.replica.specs.Replicas.{joinable, join}
 use Rattle.message.specs.Answers.{receiveOf}
 use Rattle.desk.specs.declared.record.Desk.{Desk}
 use Rattle.desk.specs.Desks.{fits}
-use Rattle.desk.specs.Hears.{accepted, late, refused, stray, timely, clashes, restartOf, marked, chooseOf, finished, markOf, hearFields, hearOf}
-use Rattle.desk.proofs.Heeded.{waiting}
+use Rattle.desk.specs.Hears.{late, refused, stray, timely, clashes, restartOf, markOf, hearFields, hearOf}
 
 -- ---- a join
 
@@ -38,23 +35,6 @@ module _ (x : Desk) (r : Replica) where
       by-test : (j : Bool) → cond j false true ≡ not j
       by-test true = refl
       by-test false = refl
-
--- ---- a server that is marked
-
-module _ (x : Desk) (p : Replica) (i : ℕ) where
-  pub mark-waits : quorumOf (x .config) (p .ledger) (marked (x .operation .answered) i) ≡ false → markOf x p i ≡ accepted (waiting x p i)
-  unfolding markOf
-  mark-waits q = rw q refl
-
-  -- the marked servers are a quorum
-  module _ (q : quorumOf (x .config) (p .ledger) (marked (x .operation .answered) i) ≡ true) where
-    pub mark-chooses : x .operation .phase ≡ 1 → markOf x p i ≡ chooseOf x p
-    unfolding markOf
-    mark-chooses f = rw (q, eq-eqb (x .operation .phase) 1 f) refl
-
-    pub mark-finishes : (x .operation .phase ≡ 1 → ⊥) → markOf x p i ≡ accepted (finished x p)
-    unfolding markOf
-    mark-finishes f = rw (q, ne-eqb (x .operation .phase) 1 f) refl
 
 -- ---- hear of the fields of a message
 

@@ -5,6 +5,7 @@ use mathlib.Core.Bool.{Bool, true, false, cond, not}
 use mathlib.Core.List.{List}
 use lib.Dec.{eqb, ltb}
 use Rattle.config.specs.Cluster.{mostStamp}
+use Rattle.config.specs.declared.cluster.Config.{Config}
 use Rattle.config.specs.Refusals.{by-verdict, refusal}
 use Rattle.config.specs.declared.answer.Refusal.{Refusal}
 use Rattle.ledger.specs.Maps.{named}
@@ -37,13 +38,19 @@ refused k x = record { hearing = Hearing.Refused k; desk = x }
 
 -- ---- the tests
 
--- 7: anything but a reply, or a reply for another desk
+-- 7: anything but a reply, or a reply for another desk than d
+abbrev pub strayFrom : ℕ → Envelope → Bool
+strayFrom d e = cond (eqb (e .kind) reply) (not (eqb (e .desk) d)) true
+
 unfoldable pub stray : Desk → Envelope → Bool
-stray x e = cond (eqb (e .kind) reply) (not (eqb (e .desk) (x .number))) true
+stray x e = strayFrom (x .number) e
 
 -- an operation runs, and the reply is of its round
+abbrev pub timelyIn : ℕ → ℕ → Envelope → Bool
+timelyIn mode round e = cond (eqb mode running) (eqb (e .round) round) false
+
 unfoldable pub timely : Desk → Envelope → Bool
-timely x e = cond (eqb (x .operation .mode) running) (eqb (e .round) (x .round)) false
+timely x e = timelyIn (x .operation .mode) (x .round) e
 
 -- 6: the pairs don't join, or the reply's sheet lacks a transfer of the desk's
 unfoldable pub clashes : Desk → Replica → Bool
@@ -83,12 +90,18 @@ unfoldable pub marked : ℕ → ℕ → ℕ
 marked m i = cond (named m i) m (m + 2 ^ i)
 
 -- whether a write finds no stamp left above that of r
-unfoldable pub noStamp : Desk → Register → Bool
-noStamp x r = cond (eqb (x .operation .kind) writing) (not (ltb (r .stamp) (mostStamp (x .config)))) false
+abbrev pub noStampIn : Config → ℕ → Register → Bool
+noStampIn c kind r = cond (eqb kind writing) (not (ltb (r .stamp) (mostStamp c))) false
 
--- what phase 1 chooses, where r is held: a read that one, a write stamp + 1, its own number and the new value
+unfoldable pub noStamp : Desk → Register → Bool
+noStamp x r = noStampIn (x .config) (x .operation .kind) r
+
+-- what phase 1 chooses, where r is held: a read that one, a write stamp + 1, its own number d and the new value
+abbrev pub chosenBy : ℕ → Operation → Register → Register
+chosenBy d o r = cond (eqb (o .kind) writing) (record { stamp = suc (r .stamp); desk = d; value = o .value }) r
+
 unfoldable pub chosenOf : Desk → Register → Register
-chosenOf x r = cond (eqb (x .operation .kind) writing) (record { stamp = suc (r .stamp); desk = x .number; value = x .operation .value }) r
+chosenOf x r = chosenBy (x .number) (x .operation) r
 
 -- the operation in phase 2, with the chosen register g
 abbrev pub inPhaseTwo : Operation → Register → Operation

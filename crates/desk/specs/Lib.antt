@@ -6,3 +6,4 @@ pub mod Asks
 pub mod Results
 pub mod Hears
 pub mod Parts
+pub mod Hearings

@@ -13,6 +13,8 @@ pub use begin::Turned;
 pub use begin::begin_read_in;
 pub use begin::begin_write_in;
 pub use begin::drop_in;
+pub use hear::HeardIn;
+pub use hear::hear_in;
 pub use lent::hear_lent;
 pub use operation::Operation;
 pub use record::Desk;

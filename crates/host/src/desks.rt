@@ -3,9 +3,11 @@
 use super::code::of_hearing;
 use super::code::of_number;
 use super::code::of_verdict;
+use super::servers::put_counts;
 use desk::Desk;
 use desk::DeskAnswer;
 use desk::Turned;
+use desk::hear_in;
 use desk::hear_lent;
 use replica::Register;
 ghost use mathlib.Core.Path.{_≡_};
@@ -74,12 +76,36 @@ pub extern "C" fn tovridsa_ask(desk: Desk, server: u64, out: &mut [u8], at: usiz
 pub extern "C" fn tovridsa_hear(desk: Desk, msg: &[u8]) -> AnsweredDesk
     ensures { λ r. ⌜ r ≡ heardCode (hearOf desk (now (msg .entry))) ⌝ }
 {
-    let heard = desk.hear(msg);
+    let config = desk.config;
+    let number = desk.number;
+    let register = desk.replica.register;
+    let operation = desk.operation;
+    let mut replica = desk.replica;
+    let mut counts = desk.replica.ledger.counts;
+    let heard = hear_in(
+        config,
+        number,
+        &mut counts,
+        &mut replica.ledger.cells,
+        register,
+        desk.round,
+        operation,
+        msg,
+    );
     let hearing = heard.hearing;
-    let after = heard.desk;
+    let register = heard.register;
+    let operation = heard.operation;
+    put_counts(&mut replica.ledger.counts, counts);
+    replica.register = register;
     AnsweredDesk {
         answer: of_hearing(hearing),
-        desk: after,
+        desk: Desk {
+            config,
+            number,
+            replica,
+            round: heard.round,
+            operation,
+        },
     }
 }
 

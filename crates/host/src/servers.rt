@@ -5,6 +5,7 @@ use super::code::of_verdict;
 use super::code::place;
 use server::Server;
 use server::ServerAnswer;
+use server::serve_in;
 ghost use mathlib.Core.Path.{_≡_};
 ghost use Rattle.server.specs.Servers.{openOf};
 ghost use Rattle.server.specs.Shares.{shareOf};
@@ -62,13 +63,33 @@ pub extern "C" fn tovridsa_serve(
 ) -> AnsweredServe
     ensures { λ r. ⌜ (r ≡ servedCode (serveOf server (now (msg .entry)) (now (out .entry)) at) at) × (now (out .exit) ≡ serveOf server (now (msg .entry)) (now (out .entry)) at .out) ⌝ }
 {
-    let served = server.serve(msg, out, at);
+    let config = server.config;
+    let number = server.number;
+    let register = server.replica.register;
+    let mut replica = server.replica;
+    let mut counts = server.replica.ledger.counts;
+    let served = serve_in(
+        config,
+        number,
+        &mut counts,
+        &mut replica.ledger.cells,
+        register,
+        msg,
+        out,
+        at,
+    );
     let answer = served.answer;
-    let after = served.server;
+    let register = served.register;
+    put_counts(&mut replica.ledger.counts, counts);
+    replica.register = register;
     AnsweredServe {
         answer: of_done(answer),
         end: place(answer, at as u64),
-        server: after,
+        server: Server {
+            config,
+            number,
+            replica,
+        },
     }
 }
 
@@ -81,4 +102,11 @@ fn of_server(answer: ServerAnswer) -> AnsweredServer
         answer: of_verdict(verdict),
         server,
     }
+}
+
+// An array in the place of another.
+pub(crate) fn put_counts(counts: &mut [u16; 16], next: [u16; 16])
+    ensures { λ r. ⌜ now (counts .exit) ≡ next ⌝ }
+{
+    *counts = next;
 }

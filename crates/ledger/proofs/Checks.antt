@@ -3,26 +3,17 @@ use Prim.Native.Nat.{ℕ}
 use native.Mathlib.Omega.{arith}
 use mathlib.Core.Path.{_≡_, refl, sym}
 use mathlib.Core.Bool.{Bool, true, false, cond}
-use Rattle.quorums.proofs.Tests.{both, chosen-first, chosen-second}
+use Rattle.quorums.proofs.Tests.{both, chosen-first}
 use Rattle.config.specs.Cluster.{validOf}
 use Rattle.config.specs.declared.cluster.Config.{Config}
 use Rattle.config.specs.Refusals.{refusal}
 use Rattle.config.specs.declared.answer.Refusal.{Refusal}
 use Rattle.config.specs.declared.answer.Verdict.{Verdict}
 use Rattle.ledger.specs.declared.ledger.Ledger.{Ledger}
-use Rattle.ledger.specs.Checks.{bounded, aboveFloor, fits, floorAnswer, checkAnswer}
+use Rattle.ledger.specs.Checks.{bounded, aboveFloor, fits, checkAnswer}
 
 pub accepted-not-refused : {A : Type 0} (r : Refusal) → Verdict.Accepted ≡ Verdict.Refused r → A
 accepted-not-refused r e = let z : _≡_ {A = ℕ} 0 1 = cc in absurd (omega arith)
-
--- what an answer of `check_floor` tells of a valid cluster
-pub floor-told : (c : Config) (l : Ledger) → validOf c ≡ true → floorAnswer c l ≡ Verdict.Accepted → aboveFloor c l ≡ true
-unfolding floorAnswer
-floor-told c l v e = chosen-first (aboveFloor c l) _ _ _ (λ d. accepted-not-refused _ (sym d)) (rw v at e) .0
-
-pub floor-refused : (c : Config) (l : Ledger) (r : Refusal) → validOf c ≡ true → floorAnswer c l ≡ Verdict.Refused r → aboveFloor c l ≡ false
-unfolding floorAnswer
-floor-refused c l r v e = chosen-second (aboveFloor c l) _ _ _ (accepted-not-refused r) (rw v at e)
 
 -- a ledger that a party may hold or send
 pub ledger-told : (c : Config) (l : Ledger) → fits c l ≡ true → (bounded c l ≡ true) × (aboveFloor c l ≡ true)

@@ -9,17 +9,16 @@ use mathlib.Core.Bool.{Bool, true, false, cond, not}
 use borrow.Author.Tests.{lt-ltb, le-ltb, le-leb, eq-eqb, ne-eqb, eqb-true}
 use lib.Dec.{ltb, eqb}
 use lib.ListN.{getD}
-use Rattle.quorums.specs.Sum.{sum, all}
-use Rattle.quorums.proofs.Sums.{sum-next, sum-zero, sum-rest, sum-extend, all-each, each-all}
+use Rattle.quorums.specs.Sum.{sum}
+use Rattle.quorums.proofs.Sums.{sum-next, sum-zero, sum-rest, sum-extend, all-each, each-all, all-same}
 use Rattle.quorums.proofs.Tests.{le-or-lt}
 use Rattle.config.specs.Cluster.{mostWeight}
 use Rattle.config.specs.declared.cluster.Config.{Config}
 use Rattle.ledger.specs.declared.ledger.Ledger.{Ledger}
-use Rattle.ledger.specs.Ledgers.{countOf, cellOf, lineOf, givenOf, receivedOf}
+use Rattle.ledger.specs.Ledgers.{countOf, cellOf, givenOf, receivedOf}
 use Rattle.ledger.specs.Checks.{mayHold, totalFits, cellFits, rowFits, bounded}
-use Rattle.ledger.specs.Sums.{under, receivedFrom, rowFaults, beyond, beyondFrom, faultsOf}
-use Rattle.ledger.proofs.Lines.{given-line}
-use Rattle.ledger.proofs.Rows.{one-test}
+use Rattle.ledger.specs.Sums.{under, receivedFrom, rowFaults, filledRow, beyond, beyondFrom, faultsOf}
+use Rattle.ledger.proofs.Rows.{one-test, part, in-row}
 use Rattle.ledger.proofs.Totals.{bounded-told, told-bounded, cell-placed, cell-outside, total-fits-told, Placed}
 
 -- a sum of 0 has nothing in it
@@ -35,6 +34,20 @@ under-none a b e = ⊎-elim (λ (h : b ≤ a). h) (λ (h : a < b). absurd (omega
 pub none-under : (a b : ℕ) → b ≤ a → under a b ≡ 0
 unfolding under
 none-under a b h = rw (le-ltb a b h) refl
+
+-- ---- a row is empty exactly where each of its cells is 0
+
+row-clear : (cell : ℕ → ℕ) → ((j : ℕ) → j < 16 → cell j ≡ 0) → filledRow cell ≡ 0
+unfolding filledRow
+row-clear cell h = rw (each-all 16 (λ j. eqb (cell j) 0) (λ j l. eq-eqb (cell j) 0 (h j l))) refl
+
+clear-row : (cell : ℕ → ℕ) → filledRow cell ≡ 0 → (j : ℕ) → j < 16 → cell j ≡ 0
+unfolding filledRow
+clear-row cell e j l = eqb-true (cell j) 0 (all-each 16 (λ k. eqb (cell k) 0) (clear _ e) j l)
+  where
+    clear : (b : Bool) → _≡_ {A = ℕ} (cond b 0 1) 0 → b ≡ true
+    clear true z = refl
+    clear false z = absurd (omega arith)
 
 -- ---- nothing is wrong, where all is in range
 
@@ -54,9 +67,11 @@ module _ (c : Config) (l : Ledger) (most : c .n ≤ 16) where
         let f = fit i (omega arith) in
         omega (arith, own-none i (omega arith), none-under (givenOf l i) (countOf l i) (f .0), none-under (mostWeight * countOf l i) (givenOf l i) (f .1))
 
-    row-empty : (i : ℕ) → c .n ≤ i → i < 16 → givenOf l i ≡ 0
+    row-empty : (i : ℕ) → c .n ≤ i → i < 16 → (givenOf l i ≡ 0) × (filledRow (cellOf l i) ≡ 0)
     unfolding givenOf
-    row-empty i g h = sum-zero 16 (λ j. cellOf l i j) (λ j k. cell-outside c l i j b h k (inl g))
+    row-empty i g h =
+        let none : (j : ℕ) → j < 16 → cellOf l i j ≡ 0 = λ j k. cell-outside c l i j b h k (inl g) in
+        (sum-zero 16 (cellOf l i) none, row-clear (cellOf l i) none)
 
     pub beyond-none : (i : ℕ) → c .n ≤ i → i < 16 → beyond (c .n) l i ≡ 0
     unfolding beyond receivedFrom
@@ -90,26 +105,31 @@ module _ (c : Config) (l : Ledger) (most : c .n ≤ 16) where
     unfolding faultsOf
     none-beyond i g h = rw (le-ltb i (c .n) g) at (nothing-in 16 (beyondFrom (c .n) l) (omega (arith, e)) i h)
 
+    empty-row : (i j : ℕ) → c .n ≤ i → i < 16 → j < 16 → cellOf l i j ≡ 0
+    unfolding beyond
+    empty-row i j g h k = clear-row (cellOf l i) (omega (arith, none-beyond i g h)) j k
+
     row-fits : (i : ℕ) → i < 16 → (countOf l i ≤ givenOf l i) × (givenOf l i ≤ mostWeight * countOf l i)
-    unfolding rowFaults beyond
+    unfolding rowFaults beyond givenOf
     row-fits i h =
-        ⊎-elim (λ (g : c .n ≤ i). let z = none-beyond i g h in (omega (arith, z), omega (arith, z)))
+        ⊎-elim
+        (λ (g : c .n ≤ i).
+        let z = none-beyond i g h in
+        let none = sum-zero 16 (cellOf l i) (λ j. empty-row i j g h) in
+        (omega (arith, z, none), omega (arith, z, none)))
         (λ (g : i < c .n).
         let z = rows-right i g in
         (under-none (givenOf l i) (countOf l i) (omega (arith, z)), under-none (mostWeight * countOf l i) (givenOf l i) (omega (arith, z))))
         (le-or-lt (c .n) i)
 
     cell-zero : (i j : ℕ) → i < 16 → j < 16 → (c .n ≤ i) ⊎ ((c .n ≤ j) ⊎ (i ≡ j)) → cellOf l i j ≡ 0
-    unfolding rowFaults beyond givenOf receivedFrom
+    unfolding rowFaults beyond receivedFrom
     cell-zero i j h k place =
-        ⊎-elim (λ (g : c .n ≤ i). nothing-in 16 (λ m. cellOf l i m) (omega (arith, none-beyond i g h)) j k)
+        ⊎-elim (λ (g : c .n ≤ i). empty-row i j g h k)
         (λ (p : (c .n ≤ j) ⊎ (i ≡ j)).
-        ⊎-elim (λ (g : i < c .n). inside g p) (λ (g : c .n ≤ i). nothing-in 16 (λ m. cellOf l i m) (omega (arith, none-beyond i g h)) j k) (flip (le-or-lt (c .n) i)))
+        ⊎-elim (λ (g : c .n ≤ i). empty-row i j g h k) (λ (g : i < c .n). inside g p) (le-or-lt (c .n) i))
         place
       where
-        flip : {A B : Type 0} → A ⊎ B → B ⊎ A
-        flip s = ⊎-elim inr inl s
-
         inside : i < c .n → (c .n ≤ j) ⊎ (i ≡ j) → cellOf l i j ≡ 0
         inside g p =
             ⊎-elim (λ (q : c .n ≤ j). nothing-in (c .n) (λ m. cellOf l m j) (omega (arith, none-beyond j q k)) i g)
@@ -163,9 +183,11 @@ module _ (c : Config) (l : Ledger) (most : c .n ≤ 16) where
 pub beyond-start : (n : ℕ) (l : Ledger) → 0 ≡ sum n (beyondFrom n l)
 beyond-start n l = sym (sum-zero n (beyondFrom n l) (λ i h. rw (lt-ltb i n h) refl))
 
-pub beyond-next : (n : ℕ) (l : Ledger) (i rest total got count : ℕ) → n ≤ i → rest ≡ sum i (beyondFrom n l) → total ≡ lineOf (l .cells) (i * 16) 1 16
-    → got ≡ receivedFrom n l i → count ≡ countOf l i → rest + (total + got + count) ≡ sum (i + 1) (beyondFrom n l)
-unfolding beyond
-beyond-next n l i rest total got count h e a b d =
-    let here : beyondFrom n l i ≡ givenOf l i + receivedFrom n l i + countOf l i = rw (le-ltb i n h) refl in
-    omega (arith, sum-next i (beyondFrom n l), here, given-line l i)
+pub beyond-next : (n : ℕ) (l : Ledger) (i rest full got count : ℕ) → n ≤ i → rest ≡ sum i (beyondFrom n l) → full ≡ filledRow (λ j. getD (part (l .cells) i) j 0)
+    → got ≡ receivedFrom n l i → count ≡ countOf l i → rest + (full + got + count) ≡ sum (i + 1) (beyondFrom n l)
+unfolding beyond filledRow
+beyond-next n l i rest full got count h e a b d =
+    let here : beyondFrom n l i ≡ filledRow (cellOf l i) + receivedFrom n l i + countOf l i = rw (le-ltb i n h) refl in
+    let row : filledRow (λ j. getD (part (l .cells) i) j 0) ≡ filledRow (cellOf l i) =
+    ap (λ t. cond t 0 1) (all-same 16 _ _ (λ j k. ap (λ x. eqb x 0) (in-row (l .cells) i j k))) in
+    omega (arith, sum-next i (beyondFrom n l), here, row)

@@ -1,32 +1,24 @@
--- What an answer of `join` tells, and what `lacks` looks at.
-use mathlib.Core.Path.{_≡_, refl, sym, ap, _∙_}
-use mathlib.Core.Bool.{Bool, true, false, cond}
-use mathlib.Core.List.{[]}
-use Rattle.config.specs.Refusals.{refusal}
-use Rattle.config.specs.declared.answer.Refusal.{Refusal}
-use Rattle.config.specs.declared.answer.Verdict.{Verdict}
+-- What the functions of the join look at: the later of two rows, by the parts that are lent, and what `lacks` goes by.
+use Prim.Native.Nat.{ℕ, _+_, _*_, _/_, _≤_}
+use native.Mathlib.Omega.{arith}
+use mathlib.Core.Path.{_≡_, refl}
+use mathlib.Core.List.{List, []}
+use lib.ListN.{getD}
 use Rattle.ledger.specs.declared.ledger.Ledger.{Ledger}
-use Rattle.ledger.specs.declared.ledger.Changed.{Changed}
-use Rattle.ledger.specs.Ledgers.{ledgerOf, accepted, refused}
-use Rattle.ledger.specs.Joins.{joins, joined, lacks, joinAnswer}
-use Rattle.ledger.proofs.Checks.{accepted-not-refused}
+use Rattle.ledger.specs.Tables.{table}
+use Rattle.ledger.specs.Ledgers.{countOf, ledgerOf}
+use Rattle.ledger.specs.Joins.{later, laterAt, lacks}
+use Rattle.ledger.proofs.Rows.{part, in-row}
+use Rattle.ledger.proofs.Tables.{table-same}
 
-pub join-told : (a b : Ledger) (r : Changed) → r ≡ joinAnswer a b → r .verdict ≡ Verdict.Accepted → (joins a b ≡ true) × (r ≡ accepted (joined a b))
-unfolding joinAnswer
-join-told a b r e v = by-test (joins a b) e
-  where
-    by-test : (t : Bool) → r ≡ cond t (accepted (joined a b)) (refused (refusal 6) a) → (t ≡ true) × (r ≡ accepted (joined a b))
-    by-test true d = (refl, d)
-    by-test false d = accepted-not-refused _ (sym v ∙ ap (λ x. x .verdict) d)
-
-pub join-refused : (a b : Ledger) (r : Changed) (x : Refusal) → r ≡ joinAnswer a b → r .verdict ≡ Verdict.Refused x
-    → (joins a b ≡ false) × (r ≡ refused (refusal 6) a)
-unfolding joinAnswer
-join-refused a b r x e v = by-test (joins a b) e
-  where
-    by-test : (t : Bool) → r ≡ cond t (accepted (joined a b)) (refused (refusal 6) a) → (t ≡ false) × (r ≡ refused (refusal 6) a)
-    by-test true d = accepted-not-refused x (sym (ap (λ x. x .verdict) d) ∙ v)
-    by-test false d = (refl, d)
+-- the later of row i of b and row i of cells that are a's from that row on
+pub row-later : (a b : Ledger) (cells : List ℕ) (count i : ℕ) → count ≡ countOf a i → ((m : ℕ) → i * 16 ≤ m → getD cells m 0 ≡ getD (a .cells) m 0)
+    → table 16 (λ j. later count (countOf b i) (getD (part cells i) j 0) (getD (part (b .cells) i) j 0)) ≡ table 16 (λ j. laterAt a b (i * 16 + j))
+row-later a b cells count i same left =
+    table-same 16 _ _
+    (λ j l.
+    let e : (i * 16 + j) / 16 ≡ i = omega arith in
+    rw (in-row cells i j l, in-row (b .cells) i j l, left (i * 16 + j) (omega arith), same, e) refl)
 
 -- what a ledger lacks is a matter of the counts alone
 pub lacks-counts : (a b : Ledger) → lacks (ledgerOf (a .counts) []) (ledgerOf (b .counts) []) ≡ lacks a b

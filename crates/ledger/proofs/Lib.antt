@@ -6,6 +6,7 @@ pub mod Answers
 pub mod Checks
 pub mod Tables
 pub mod Tallies
+pub mod Written
 pub mod Weights
 pub mod Joins
 pub mod Changes
@@ -15,6 +16,7 @@ pub mod Published
 pub mod Unions
 pub mod Kept
 pub mod Compared
+pub mod Comparisons
 pub mod Fresh
 pub mod Added
 pub mod Spared

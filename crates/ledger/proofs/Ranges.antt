@@ -1,20 +1,15 @@
--- What a call knows of an argument that is an array or a ledger: arrays have their lengths, and each number fits its type.
+-- What a call knows of an argument that is an array: arrays have their lengths, and each number fits its type.
 use Prim.Native.Nat.{ℕ, zero, suc, _^_, _<_}
-use native.Mathlib.Omega.{arith}
 use mathlib.Core.Path.{_≡_, sym, _∙_}
 use mathlib.Core.List.{List, [], _∷_, map}
 use lib.ListN.{length, getD, length-map, List·getD-map}
 use lib.Pow.{pow-pos}
-use mir.Syntax.{Width, w16, w32}
+use mir.Syntax.{Width}
 use mir.Val.{Val, bits}
 use denote.Array.{Array, each}
 use denote.Shadow.{shadow}
 use denote.Plain.{UInt}
 use denote.Laws.{Is}
-use denote.Struct.Declared.{row as rowOf}
-use Rattle.ledger.specs.declared.ledger.Ledger.{Ledger}
-use Rattle.ledger.proofs.ledger.Ledger as L
-use Rattle.ledger.specs.Ledgers.{Typed}
 
 each-fits : (w : Width) (xs : List ℕ) (us : List Val) → shadow (each ℕ (UInt w .own) xs us) → (k : ℕ) → getD xs k 0 < 2 ^ bits w
 each-fits w [] us h k = pow-pos (bits w)
@@ -35,12 +30,3 @@ field-length w n xs vs h = sym (length-map xs (λ v. v)) ∙ array-length w n (m
 
 pub field-fits : (w : Width) (n : ℕ) (xs : List ℕ) (vs : List Val) → Is (Array (UInt w) n) (map (λ (v : ℕ). v) xs) vs → (k : ℕ) → getD xs k 0 < 2 ^ bits w
 field-fits w n xs vs h k = rw (List·getD-map (λ v. v) xs k 0) at (array-fits w n (map (λ v. v) xs) vs h k)
-
-pub ledger-typed : (l : Ledger) (vs : List Val) → Is (rowOf L.the-type) l vs → Typed l
-ledger-typed l vs h =
-    record {
-      counts-length = field-length w16 16 (l .counts) _ (h .1 .1 .0);
-      cells-length = field-length w32 256 (l .cells) _ (h .1 .1 .1 .0);
-      count-fits = λ i. omega (arith, field-fits w16 16 (l .counts) _ (h .1 .1 .0) i);
-      cell-fits = λ k. omega (arith, field-fits w32 256 (l .cells) _ (h .1 .1 .1 .0) k);
-    }

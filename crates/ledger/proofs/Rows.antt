@@ -1,19 +1,18 @@
--- Tests of all 256 cells, row by row, and tests that count what fails them.
-use Prim.Native.Nat.{ℕ, zero, suc, _+_, _-_, _*_, _/_, _%_, _<_}
-use native.Mathlib.Nat.{add-zero}
+-- Tests of all 256 cells, row by row.
+use Prim.Native.Nat.{ℕ, _+_, _-_, _*_, _/_, _%_, _<_}
+use native.Mathlib.Numerals.{add-one}
 use native.Mathlib.Omega.{arith}
 use mathlib.Core.Path.{_≡_, refl, sym, ap, subst, _∙_}
 use mathlib.Core.Bool.{Bool, true, false, cond}
 use lib.Dec.{eqb}
-use borrow.Author.Tests.{ne-eqb}
 use mathlib.Core.List.{List}
 use lib.ListN.{length, getD, take, drop, length-drop}
 use lib.Seq.{length-take-le, getD-take, getD-drop}
-use Rattle.quorums.specs.Sum.{sum, all}
+use Rattle.quorums.specs.Sum.{all}
 use Rattle.ledger.specs.declared.ledger.Ledger.{Ledger}
 use Rattle.ledger.specs.Ledgers.{countOf}
-use Rattle.ledger.specs.Joins.{agree, agreeAt}
-use Rattle.quorums.proofs.Sums.{all-each, each-all, all-same}
+use Rattle.ledger.specs.Joins.{agree, agreeAt, rowAgrees, rowAgreesAt}
+use Rattle.quorums.proofs.Sums.{all-suc, all-each, each-all, all-same}
 
 -- two tests of which each holds where the other does are one
 pub one-test : (a b : Bool) → (a ≡ true → b ≡ true) → (b ≡ true → a ≡ true) → a ≡ b
@@ -21,19 +20,9 @@ one-test true b to from = sym (to refl)
 one-test false true to from = from refl
 one-test false false to from = refl
 
-pub sum-none : (f : ℕ → ℕ) → 0 ≡ sum 0 f
-unfolding sum
-sum-none f = refl
-
-one-more : (count : ℕ) (passed t : Bool) → eqb count 0 ≡ passed → eqb (count + cond t 0 1) 0 ≡ cond t passed false
-one-more count passed true e = ap (λ x. eqb x 0) (add-zero count) ∙ e
-one-more count passed false e = ne-eqb (count + 1) 0 (λ z. omega (arith, z))
-
--- none is counted exactly where all pass
-pub none-counted : (n : ℕ) (p : ℕ → Bool) → eqb (sum n (λ k. cond (p k) 0 1)) 0 ≡ all n p
-unfolding sum all
-none-counted zero p = refl
-none-counted (suc n) p = one-more (sum n (λ k. cond (p k) 0 1)) (all n p) (p n) (none-counted n p)
+-- a test is passed by all, turn by turn
+pub all-turn : (n : ℕ) (p : ℕ → Bool) (passed t : Bool) → passed ≡ all n p → t ≡ cond (p n) passed false → t ≡ all (n + 1) p
+all-turn n p passed t e h = h ∙ ap (λ x. cond (p n) x false) e ∙ sym (rw add-one (all-suc n p))
 
 -- 256 cells are 16 rows of 16
 pub by-rows : (p : ℕ → Bool) → all 256 p ≡ all 16 (λ i. all 16 (λ j. p (i * 16 + j)))
@@ -64,3 +53,10 @@ row-agrees a b i =
     (λ j l.
     let e : (i * 16 + j) / 16 ≡ i = omega arith in
     rw (in-row (a .cells) i j l, in-row (b .cells) i j l, e) refl)
+
+pub row-compared : (a b : Ledger) (i : ℕ)
+    → rowAgrees (countOf a i) (countOf b i) (λ j. getD (part (a .cells) i) j 0) (λ j. getD (part (b .cells) i) j 0) ≡ rowAgreesAt a b i
+unfolding rowAgrees
+row-compared a b i =
+    ap (λ t. cond (eqb (countOf a i) 0) (cond (eqb (countOf b i) 0) true t) t)
+    (all-same 16 _ _ (λ j l. rw (in-row (a .cells) i j l, in-row (b .cells) i j l) refl))

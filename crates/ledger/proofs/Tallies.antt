@@ -35,16 +35,6 @@ tally-next f xs ys j v l h e =
       left = λ k b. getD-set-other ys j k v 0 (λ c. omega arith) ∙ h .left k (omega arith);
     }
 
-pub tally-same : (f : ℕ → ℕ) (xs ys : List ℕ) (j : ℕ) → Tallied f xs ys j → f j ≡ 0 → Tallied f xs ys (j + 1)
-tally-same f xs ys j h e =
-    record {
-      size = h .size;
-      done =
-          λ k b.
-          ⊎-elim (λ (d : k ≡ j). rw d (omega (arith, h .left j (omega arith), e))) (λ (d : k < j). h .done k d) (below-suc (rw add-one at b));
-      left = λ k b. h .left k (omega arith);
-    }
-
 -- where nothing is to be added from j on, the rest is done
 pub tally-all : (f : ℕ → ℕ) (xs ys : List ℕ) (j : ℕ) → Tallied f xs ys j → ((k : ℕ) → j ≤ k → f k ≡ 0) → ys ≡ table 16 (λ k. getD xs k 0 + f k)
 tally-all f xs ys j h none =

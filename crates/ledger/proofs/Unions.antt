@@ -122,7 +122,6 @@ joined-self a t =
     (sym (is-table 16 (largerAt a a) (a .counts) (t .counts-length) (λ i h. omega arith)))
     (sym (is-table 256 (laterAt a a) (a .cells) (t .cells-length) (λ k h. sym (later-first _ _ _ _ (omega arith)))))
 
--- joining commutes
 -- where b has nothing more, a is the union
 pub joined-has : (a b : Ledger) → length (a .counts) ≡ 16 → length (a .cells) ≡ 256 → lacks a b ≡ false → joined a b ≡ a
 unfolding joined lacks
@@ -132,6 +131,7 @@ joined-has a b counted celled e =
     (sym (is-table 16 (largerAt a b) (a .counts) counted (λ i l. omega (arith, leb-true (countOf b i) (countOf a i) (has i l)))))
     (sym (is-table 256 (laterAt a b) (a .cells) celled (λ k l. sym (later-first _ _ _ _ (leb-true (countOf b (k / 16)) (countOf a (k / 16)) (has (k / 16) (omega arith)))))))
 
+-- joining commutes
 pub joins-comm : (a b : Ledger) → joins a b ≡ joins b a
 unfolding joins
 joins-comm a b = all-same 256 (agreeAt a b) (agreeAt b a) (λ k h. agree-comm _ _ _ _)

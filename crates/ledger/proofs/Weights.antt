@@ -1,26 +1,25 @@
 -- Weights and quorums from what each server received and gave: as the program computes them, and as they are on a ledger.
-use Prim.Native.Nat.{ℕ, _+_, _*_, _/_, _%_, _^_, _≤_, _<_}
+use Prim.Native.Nat.{ℕ, _+_, _*_, _≤_, _<_}
 use native.Mathlib.Omega.{arith}
 use mathlib.Core.Path.{_≡_, refl, sym, ap, ap₂, _∙_}
 use mathlib.Core.Bool.{Bool, true, false, cond}
 use mathlib.Core.List.{List}
-use borrow.Author.Tests.{eq-eqb, ne-eqb, lt-ltb}
+use borrow.Author.Tests.{lt-ltb}
 use lib.Dec.{leb, ltb}
 use lib.ListN.{getD}
 use Rattle.quorums.specs.Sum.{sumIn}
 use Rattle.quorums.specs.Difference.{difference}
 use Rattle.quorums.specs.Accounts.{held, weight, total, quorum}
-use Rattle.quorums.proofs.Sums.{all-same, sumIn-same}
+use Rattle.quorums.proofs.Sums.{all-same, sumIn-none, sumIn-next, sumIn-same}
 use Rattle.quorums.proofs.Weights.{quorum-is}
 use Rattle.config.specs.Cluster.{validOf, serverOf, startOf, totalOf, aboveOf, leastOf}
 use Rattle.config.specs.Answers.{totalAnswer, leastAnswer}
 use Rattle.config.specs.declared.cluster.Config.{Config}
 use Rattle.config.specs.declared.answer.Number.{Number}
 use Rattle.config.specs.declared.answer.Refusal.{Refusal}
-use Rattle.config.proofs.Clusters.{valid-server, server-small, valid-bounds, above-least, least-small, total-small, least-told, least-refused, total-told, total-refused}
+use Rattle.config.proofs.Clusters.{valid-server, server-small, valid-bounds, start-small, above-least, least-small, total-small, least-told, least-refused, total-told, total-refused}
 use Rattle.ledger.specs.declared.ledger.Ledger.{Ledger}
 use Rattle.ledger.specs.Ledgers.{cellOf, receivedOf, givenOf, accountsOf, Typed}
-use Rattle.format.specs.Bytes.{bit}
 use Rattle.ledger.specs.Maps.{named}
 use Rattle.ledger.specs.Weights.{weightOf, quorumOf}
 use Rattle.ledger.specs.Checks.{bounded, aboveFloor}
@@ -66,15 +65,6 @@ pub weight-at : (c : Config) (r g : List ℕ) (i start : ℕ) → start ≡ star
 unfolding weight
 weight-at c r g i start e = ap (λ s. difference (s + getD r i 0) (getD g i 0)) e
 
--- a server that a map names counts, and one that it does not name does not
-pub named-counts : (m i x y z : ℕ) → bit m i ≡ 1 → z ≡ x + y → z ≡ x + cond (named m i) y 0
-unfolding named bit
-named-counts m i x y z t e = rw (eq-eqb (m / 2 ^ i % 2) 1 t) e
-
-pub unnamed-counts : (m i x y z : ℕ) → (bit m i ≡ 1 → ⊥) → z ≡ x → z ≡ x + cond (named m i) y 0
-unfolding named bit
-unnamed-counts m i x y z t e = rw (ne-eqb (m / 2 ^ i % 2) 1 t) (omega arith)
-
 pub counts-most : (b : Bool) (x : ℕ) → cond b x 0 ≤ x
 counts-most true x = omega arith
 counts-most false x = omega arith
@@ -87,7 +77,46 @@ pub quorum-at : (c : Config) (r g : List ℕ) (m W h k : ℕ) → totalAnswer c 
 unfolding total totalOf
 quorum-at c r g m W h k e p q = rw (total-told c W e .1, p, q) (sym (quorum-is (c .n) (accountsIn c r g) (named m)))
 
+-- The sums of those that a map names, of the servers below i.
+pub record Counted (c : Config) (r g : List ℕ) (m i h k : ℕ) : Type 0 where
+  pub held-is : h ≡ sumIn i (named m) (held (accountsIn c r g))
+  pub gave-is : k ≡ sumIn i (named m) (λ j. getD g j 0)
+  pub held-small : h ≤ i * 68719492720
+  pub gave-small : k ≤ i * 68719492720
+
+pub counted-none : (c : Config) (r g : List ℕ) (m : ℕ) → Counted c r g m 0 0 0
+counted-none c r g m = record { held-is = sym (sumIn-none _ _); gave-is = sym (sumIn-none _ _); held-small = omega arith; gave-small = omega arith }
+
+module _ {c : Config} {r g : List ℕ} {m i h k start : ℕ} (s : Counted c r g m i h k) (sr : Sums 68719476720 r) (sg : Sums 68719476720 g) (e : start ≡ startOf c i) where
+  -- there is room for one more
+  pub counted-room : i < 16 → (h + start + getD r i 0 ≤ 1099511883520) × (k + getD g i 0 ≤ 1099511883520)
+  counted-room l = (omega (arith, start-small c i, sr .small i), omega (arith, sg .small i))
+
+  -- a server that the map names counts, and one that it does not name does not
+  pub counted-named : {x y : ℕ} → named m i ≡ true → x ≡ h + start + getD r i 0 → y ≡ k + getD g i 0 → Counted c r g m (i + 1) x y
+  counted-named t p q =
+      record {
+        held-is = rw (sumIn-next, t) (omega arith);
+        gave-is = rw (sumIn-next, t) (omega arith);
+        held-small = omega (arith, start-small c i, sr .small i);
+        gave-small = omega (arith, sg .small i);
+      }
+
+  pub counted-passed : {x y : ℕ} → named m i ≡ false → x ≡ h → y ≡ k → Counted c r g m (i + 1) x y
+  counted-passed t p q =
+      record { held-is = rw (sumIn-next, t) (omega arith); gave-is = rw (sumIn-next, t) (omega arith); held-small = omega arith; gave-small = omega arith }
+
 -- ---- on a ledger
+
+-- A quorum depends on what each server received and gave.
+quorum-by : (c : Config) (l : Ledger) (m : ℕ) (r g : List ℕ) → ((i : ℕ) → i < c .n → getD r i 0 ≡ receivedOf l i)
+    → ((i : ℕ) → i < c .n → getD g i 0 ≡ givenOf l i) → quorum (c .n) (accountsIn c r g) (named m) ≡ quorumOf c l m
+unfolding quorumOf total
+quorum-by c l m r g takes gives =
+    quorum-is (c .n) (accountsIn c r g) (named m)
+    ∙ ap₂ (λ x y. ltb (2 * x + total (c .n) (accountsOf c l)) (2 * y)) (sumIn-same (c .n) (named m) _ _ (λ i k t. gives i k))
+    (sumIn-same (c .n) (named m) _ _ (λ i k t. ap (λ x. startOf c i + x) (takes i k)))
+    ∙ sym (quorum-is (c .n) (accountsOf c l) (named m))
 
 -- The weight of a server is its weight on the ledger.
 pub sums-weight : (c : Config) (l : Ledger) (i : ℕ) → serverOf c i ≡ true → weight (accountsIn c (table 16 (receivedOf l)) (table 16 (givenOf l))) i ≡ weightOf c l i
@@ -103,12 +132,7 @@ sums-above c l v = all-same (c .n) _ _ (λ i k. ap (aboveOf c) (sums-weight c l 
 -- A map names a quorum exactly when it names one on the ledger.
 pub sums-quorum : (c : Config) (l : Ledger) (m : ℕ) → validOf c ≡ true
     → quorum (c .n) (accountsIn c (table 16 (receivedOf l)) (table 16 (givenOf l))) (named m) ≡ quorumOf c l m
-unfolding quorumOf total
-sums-quorum c l m v =
-    quorum-is (c .n) (accountsIn c (table 16 (receivedOf l)) (table 16 (givenOf l))) (named m)
-    ∙ ap₂ (λ g h. ltb (2 * g + total (c .n) (accountsOf c l)) (2 * h)) (sumIn-same (c .n) (named m) _ _ (λ i k t. at (givenOf l) i k))
-    (sumIn-same (c .n) (named m) _ _ (λ i k t. ap (λ r. startOf c i + r) (at (receivedOf l) i k)))
-    ∙ sym (quorum-is (c .n) (accountsOf c l) (named m))
+sums-quorum c l m v = quorum-by c l m (table 16 (receivedOf l)) (table 16 (givenOf l)) (at (receivedOf l)) (at (givenOf l))
   where
     at : (f : ℕ → ℕ) (i : ℕ) → i < c .n → getD (table 16 f) i 0 ≡ f i
     at f i k = table-at 16 f i (omega (arith, valid-bounds c v .most))
@@ -141,3 +165,7 @@ weighs c l r g v b er eg sr sg =
 pub weighs-above : (c : Config) (l : Ledger) (r g : List ℕ) → Weighs c l r g → allAbove c r g ≡ aboveFloor c l
 unfolding aboveFloor weightOf weight
 weighs-above c l r g w = all-same (c .n) _ _ (λ i h. ap₂ (λ x y. aboveOf c (difference (startOf c i + x) y)) (w .takes i h) (w .gives i h))
+
+-- and a map names a quorum exactly when it names one on the ledger
+pub weighs-quorum : (c : Config) (l : Ledger) (m : ℕ) (r g : List ℕ) → Weighs c l r g → quorum (c .n) (accountsIn c r g) (named m) ≡ quorumOf c l m
+weighs-quorum c l m r g w = quorum-by c l m r g (w .takes) (w .gives)

@@ -51,6 +51,11 @@ refused r l = record { verdict = Verdict.Refused r; ledger = l }
 abbrev pub accepted : Ledger → Changed
 accepted l = record { verdict = Verdict.Accepted; ledger = l }
 
+-- The arrays of a ledger have their lengths.
+pub record Shaped (l : Ledger) : Type 0 where
+  pub sixteen-counts : length (l .counts) ≡ 16
+  pub all-cells : length (l .cells) ≡ 256
+
 -- A ledger that a call can have: the arrays have their lengths, and each number fits its type.
 pub record Typed (l : Ledger) : Type 0 where
   pub counts-length : length (l .counts) ≡ 16

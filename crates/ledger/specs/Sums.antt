@@ -1,16 +1,20 @@
 -- What each server received and gave, as two lists of 16 sums: weights need no more of a ledger.
 use Prim.Native.Nat.{ℕ, _+_, _*_, _≤_, _<_}
 use mathlib.Core.Path.{_≡_}
-use mathlib.Core.Bool.{Bool, cond}
+use mathlib.Core.Bool.{Bool, false, cond}
 use mathlib.Core.List.{List}
-use lib.Dec.{ltb}
+use lib.Dec.{eqb, ltb}
 use lib.ListN.{length, getD}
 use Rattle.quorums.specs.Sum.{sum, all}
 use Rattle.quorums.specs.Accounts.{Accounts, weight}
 use Rattle.config.specs.Cluster.{startOf, aboveOf, mostWeight}
+use Rattle.config.specs.Refusals.{by-verdict}
 use Rattle.config.specs.declared.cluster.Config.{Config}
 use Rattle.ledger.specs.declared.ledger.Ledger.{Ledger}
+use Rattle.ledger.specs.declared.sums.Weighed.{Weighed}
 use Rattle.ledger.specs.Ledgers.{countOf, cellOf, receivedOf, givenOf}
+use Rattle.ledger.specs.Weights.{quorumOf}
+use Rattle.ledger.specs.Checks.{checkAnswer}
 
 abbrev pub accountsIn : Config → List ℕ → List ℕ → Accounts
 accountsIn c received given = record { start = startOf c; received = λ i. getD received i 0; given = λ i. getD given i 0 }
@@ -49,9 +53,13 @@ givenBelow n l i = cond (ltb i n) (givenOf l i) 0
 unfoldable pub rowFaults : Ledger → ℕ → ℕ
 rowFaults l i = getD (l .cells) (i * 17) 0 + under (givenOf l i) (countOf l i) + under (mostWeight * countOf l i) (givenOf l i)
 
--- what there is from n on: a row, a column or a count
+-- 1 for a row with a cell that isn't 0, else 0
+unfoldable pub filledRow : (ℕ → ℕ) → ℕ
+filledRow cell = cond (all 16 (λ j. eqb (cell j) 0)) 0 1
+
+-- what there is from n on: a row that is not empty, a column or a count
 unfoldable pub beyond : ℕ → Ledger → ℕ → ℕ
-beyond n l i = givenOf l i + receivedFrom n l i + countOf l i
+beyond n l i = filledRow (cellOf l i) + receivedFrom n l i + countOf l i
 
 abbrev pub beyondFrom : ℕ → Ledger → ℕ → ℕ
 beyondFrom n l i = cond (ltb i n) 0 (beyond n l i)
@@ -59,3 +67,7 @@ beyondFrom n l i = cond (ltb i n) 0 (beyond n l i)
 -- both together, which is 0 exactly where every count and cell is in range
 unfoldable pub faultsOf : ℕ → Ledger → ℕ
 faultsOf n l = sum n (rowFaults l) + sum 16 (beyondFrom n l)
+
+-- what the record test finds, and whether a map names a quorum
+unfoldable pub weighedOf : Config → Ledger → ℕ → Weighed
+weighedOf c l m = record { verdict = checkAnswer c l; quorum = by-verdict (checkAnswer c l) (quorumOf c l m) (λ k. false) }

@@ -22,7 +22,7 @@ impl Ledger {
     pub fn check(self, config: Config) -> Verdict
         ensures { λ r. ⌜ r ≡ checkAnswer config self ⌝ }
     {
-        check_lent(&self.counts, &self.cells, config)
+        check_held(&self.counts, &self.cells, config)
     }
 
     // Whether every count and cell is within range: 1 for the cluster, then 4.
@@ -40,8 +40,15 @@ impl Ledger {
     }
 }
 
-// `check` of a ledger that is lent as its counts and cells, wherever it lies: a copy of it would take as long as the test.
-pub fn check_lent<'a>(counts: &'a [u16; 16], cells: &'a [u32; 256], config: Config) -> Verdict
+// `check` of a ledger whose counts and cells lie in one record.
+fn check_held<'a>(counts: &'a [u16; 16], cells: &'a [u32; 256], config: Config) -> Verdict
+    ensures { λ r. ⌜ r ≡ checkAnswer config (ledgerOf (now (counts .entry)) (now (cells .entry))) ⌝ }
+{
+    check_lent(counts, cells, config)
+}
+
+// `check` of a ledger that is lent as its counts and cells, wherever they lie: a copy of it would take as long as the test.
+pub fn check_lent(counts: &[u16; 16], cells: &[u32; 256], config: Config) -> Verdict
     ensures { λ r. ⌜ r ≡ checkAnswer config (ledgerOf (now (counts .entry)) (now (cells .entry))) ⌝ }
 {
     let mut received: [u64; 16] = [0; 16];

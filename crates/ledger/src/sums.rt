@@ -1,7 +1,8 @@
 // The record test in one pass over the rows of a ledger, and the sums that it leaves for what follows in the same call: what each server received and gave.
-use super::ledger::line;
+use super::join::both;
 use super::ledger::wide;
 use super::ledger::wide16;
+use super::map::names;
 use config::Config;
 use config::MOST_WEIGHT;
 use config::Number;
@@ -15,9 +16,35 @@ ghost use Rattle.quorums.specs.Sum.{sum};
 ghost use Rattle.config.specs.Cluster.{validOf, leastOf};
 ghost use Rattle.config.specs.declared.answer.Verdict.{Verdict as VerdictOf};
 ghost use Rattle.ledger.specs.Ledgers.{ledgerOf};
+ghost use Rattle.quorums.specs.Accounts.{quorum};
+ghost use Rattle.ledger.specs.Maps.{named};
 ghost use Rattle.ledger.specs.Checks.{checkAnswer};
 ghost use Rattle.ledger.specs.Tables.{table};
-ghost use Rattle.ledger.specs.Sums.{Sums, Weighs, allAbove, under as underOf, receivedFrom, givenBelow, rowFaults, beyondFrom, faultsOf};
+ghost use Rattle.ledger.specs.Sums.{Sums, Weighs, accountsIn, allAbove, under as underOf, receivedFrom, givenBelow, filledRow, rowFaults, beyondFrom, faultsOf, weighedOf};
+
+// What the record test finds of a ledger, and whether the servers that a map names are a quorum on it, which they are not where it is refused.
+pub struct Weighed {
+    pub verdict: Verdict,
+    pub quorum: bool,
+}
+
+// The record test of a ledger that is lent as its counts and cells, wherever it lies, and a quorum by the sums that the test leaves.
+pub fn weigh_lent(counts: &[u16; 16], cells: &[u32; 256], config: Config, map: u16) -> Weighed
+    ensures { λ r. ⌜ r ≡ weighedOf config (ledgerOf (now (counts .entry)) (now (cells .entry))) map ⌝ }
+{
+    let mut received: [u64; 16] = [0; 16];
+    let mut given: [u64; 16] = [0; 16];
+    match weigh(counts, cells, config, &mut received, &mut given) {
+        Verdict::Accepted => Weighed {
+            verdict: Verdict::Accepted,
+            quorum: is_quorum(config, &received, &given, map),
+        },
+        Verdict::Refused(r) => Weighed {
+            verdict: Verdict::Refused(r),
+            quorum: false,
+        },
+    }
+}
 
 // The first fault of a ledger: 1 for the cluster, 4 for a count or cell out of range, 5 for a weight not above the floor. Where there is none, two lists
 // of zeros have what each server received and gave.
@@ -77,7 +104,7 @@ fn tally(counts: &[u16], cells: &[u32], n: u64, received: &mut [u64], given: &mu
     faults
 }
 
-// What there is from n on: rows, columns and counts.
+// What there is from n on: rows that are not empty, columns and counts.
 fn left_over(counts: &[u16], cells: &[u32], n: u64, received: &[u64]) -> u64
     requires { ⌜ (length (now counts) ≡ 16) × (length (now cells) ≡ 256) × (n ≤ 16) × (now received ≡ table 16 (receivedFrom n (ledgerOf (now counts) (now cells)))) × Sums 68719476720 (now received) ⌝ }
     ensures { λ r. ⌜ (r ≡ sum 16 (beyondFrom n (ledgerOf (now (counts .entry)) (now (cells .entry))))) × (r ≤ 2199024304160) ⌝ }
@@ -85,10 +112,29 @@ fn left_over(counts: &[u16], cells: &[u32], n: u64, received: &[u64]) -> u64
     let mut rest: u64 = 0;
     let mut i = n as usize;
     while i < 16 {
-        rest += line(cells, i * 16, 1) + received[i] + wide16(counts[i]);
+        let a = i * 16;
+        let e = a + 16;
+        rest += filled(&cells[a..e]) + received[i] + wide16(counts[i]);
         i += 1;
     }
     rest
+}
+
+// 1 for a row with a cell that isn't 0, else 0. It looks at all cells, whatever it finds, so that a compiler can look at several at once.
+fn filled(row: &[u32]) -> u64
+    requires { ⌜ length (now row) ≡ 16 ⌝ }
+    ensures { λ r. ⌜ (r ≡ filledRow (λ j. getD (now (row .entry)) j 0)) × (r ≤ 1) ⌝ }
+{
+    let mut clear = true;
+    let mut k: usize = 0;
+    while k < 16 {
+        clear = both(row[k] == 0, clear);
+        k += 1;
+    }
+    if clear {
+        return 0;
+    }
+    1
 }
 
 // The total of a row, with each cell added to what its taker received.
@@ -139,4 +185,27 @@ fn above(config: Config, least: u64, received: &[u64], given: &[u64]) -> bool
         i += 1;
     }
     true
+}
+
+// Whether the servers that a map names are a quorum: whether twice what they hold is above twice what they gave and W.
+fn is_quorum(config: Config, received: &[u64], given: &[u64], map: u16) -> bool
+    requires { ⌜ (validOf config ≡ true) × Sums 68719476720 (now received) × Sums 68719476720 (now given) ⌝ }
+    ensures { λ r. ⌜ r ≡ quorum (config .n) (accountsIn config (now (received .entry)) (now (given .entry))) (named map) ⌝ }
+{
+    let Number::Value(total) = config.total() else {
+        return false;
+    };
+    let n = config.n as usize;
+    let mut held: u64 = 0;
+    let mut gave: u64 = 0;
+    let mut i: usize = 0;
+    while i < n {
+        let start = config.start_at(i as u64);
+        if names(map, i as u64) {
+            held = held + start + received[i];
+            gave = gave + given[i];
+        }
+        i += 1;
+    }
+    2 * gave + total < 2 * held
 }

@@ -76,8 +76,8 @@ impl Ledger {
     }
 }
 
-// `quorum` of a ledger whose cells are lent, wherever it lies: a copy of it would take longer than the sums.
-pub fn quorum_lent(cells: &[u32; 256], config: Config, map: u16) -> Decision
+// A quorum is a matter of the cells alone.
+fn quorum_lent(cells: &[u32; 256], config: Config, map: u16) -> Decision
     ensures { λ r. ⌜ r ≡ quorumAnswer config (ledgerOf [] (now (cells .entry))) map ⌝ }
 {
     let Signed::Value(margin) = margin_in(cells, config, map) else {

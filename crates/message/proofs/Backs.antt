@@ -77,7 +77,7 @@ unfolding readNumber
 standing-is msg s w low high c e = simp (e, eqb·suc-zero s)
 
 -- The w bytes from c on were read as d without a fault: they are there, and hold a number of the range.
-pub record BytesRead (msg : List ℕ) (w low high : ℕ) (c d : Cursor) : Type 0 where
+record BytesRead (msg : List ℕ) (w low high : ℕ) (c d : Cursor) : Type 0 where
   pub fits : c .at + w ≤ length msg
   pub low-holds : low ≤ numberAt msg (c .at) w
   pub high-holds : numberAt msg (c .at) w ≤ high
@@ -93,7 +93,7 @@ bytes-read msg w low high c e =
     record { fits = leb-true _ _ (room .0); low-holds = leb-true _ _ (tests .0); high-holds = leb-true _ _ (tests .1); is = rw (room .0, range .0) refl }
 
 -- so it is with a number that stands
-pub number-read : (msg : List ℕ) (s w low high : ℕ) (c : Cursor) → 0 < s → readNumber msg s w low high c .number ≡ 0
+number-read : (msg : List ℕ) (s w low high : ℕ) (c : Cursor) → 0 < s → readNumber msg s w low high c .number ≡ 0
     → BytesRead msg w low high c (readNumber msg s w low high c)
 number-read msg zero w low high c p e = absurd (omega arith)
 number-read msg (suc s) w low high c p e =

@@ -4,7 +4,6 @@ use Prim.Native.Nat.{ℕ}
 use mathlib.Core.Path.{_≡_, refl, sym, ap, _∙_}
 use mathlib.Core.Bool.{Bool, true, false, cond}
 use mathlib.Core.List.{List, []}
-use borrow.Author.Tests.{eq-eqb}
 use lib.Dec.{eqb}
 use Rattle.config.specs.declared.cluster.Config.{Config}
 use Rattle.config.specs.Refusals.{refusal}
@@ -21,7 +20,7 @@ use Rattle.message.specs.declared.envelope.Envelope.{Envelope}
 use Rattle.message.specs.declared.answer.Received.{Received}
 use Rattle.message.specs.Envelopes.{blankEnvelope, carried, messageOf, trimmedReplica, Typed, Bytes}
 use Rattle.message.specs.Scans.{scanOf}
-use Rattle.message.specs.Answers.{check, verdictOf, valuePart, acceptedOf, refusedOf, receiveOf, valueAnswer, place, writeOf}
+use Rattle.message.specs.Answers.{check, verdictOf, valuePart, acceptedOf, refusedOf, receiveOf, valueAnswer}
 use Rattle.message.specs.Faults.{lawful, Passed}
 use Rattle.message.proofs.Found.{taken-told, received-found}
 use Rattle.message.proofs.Numbers.{accepted-check, refused-check, received-verdict}
@@ -54,11 +53,6 @@ module _ (c : Config) (e : Envelope) (r : Replica) (t : Typed e) (s : TypedRepli
   -- the reader takes the message
   pub sent-check : check c (messageOf c e r) ≡ 0
   sent-check = taken-told c e r t s .1 (l, f)
-
-  -- so it is written wherever there is room
-  pub write-placed : (out : List ℕ) (at : ℕ) → writeOf c e r out at ≡ place (messageOf c e r) out at
-  unfolding writeOf
-  write-placed out at = rw (eq-eqb (check c (messageOf c e r)) 0 sent-check) refl
 
   -- and found again
   pub received-back : receiveOf c (messageOf c e r) ≡ record { verdict = Verdict.Accepted; envelope = e; replica = trimmedReplica r }

@@ -1,5 +1,5 @@
 -- Laws. `Faults`: the writer's number is the reader's. `Lawful`: what the test of an envelope says. `Found`: reading undoes writing. `Rounds`: writing undoes reading. `Bounds`: what the reader takes
--- is within bounds and not light. `Envelopes`: both together, for every lawful envelope and every replica that fits. `Longest`: 1,111 bytes. `Numbers`: a
+-- is within bounds and not light. `Envelopes`: both together, for every lawful envelope and every replica that fits. `Taken`: what is read with the ledger apart. `Longest`: 1,111 bytes. `Numbers`: a
 -- verdict has the number that the check found. `Placed`: what a call that writes leaves in a buffer. `Parts` is for the calls on values, `Ranges` for what
 -- a call knows of an envelope.
 -- The others lead there: `Stuck` and `Sticky` say that the first fault stays, `Ahead` to `Registers` go
@@ -26,5 +26,6 @@ pub mod FieldBacks
 pub mod Rounds
 pub mod Bounds
 pub mod Envelopes
+pub mod Taken
 pub mod Placed
 pub mod Longest

@@ -8,7 +8,6 @@ use borrow.Author.Tests.{leb-true}
 use lib.ListN.{length, take, drop}
 use lib.Seq.{length-take-le, take-append-seam, drop-append-seam, drop-append-add, drop-drop}
 use Rattle.config.specs.Refusals.{refusal}
-use Rattle.config.specs.declared.answer.Refusal.{Refusal}
 use Rattle.config.specs.declared.answer.Number.{Number}
 use Rattle.config.proofs.Clusters.{value-not-refused}
 use Rattle.message.specs.Answers.{fits as room, over, Written, place, between}
@@ -33,17 +32,6 @@ module _ (m out : List ℕ) (at : ℕ) where
       by-test : (b : Bool) → given b .answer ≡ Number.Value x → b ≡ true
       by-test true d = refl
       by-test false d = absurd (value-not-refused x (refusal 13) (sym d))
-
-  -- one that is refused has none, and leaves the buffer as it was
-  pub place-narrow : (k : Refusal)
-      → place m out at .answer ≡ Number.Refused k
-      → (room (length out) at (length m) ≡ false) × (Number.Refused k ≡ Number.Refused (refusal 13)) × (place m out at .out ≡ out)
-  unfolding place
-  place-narrow k e = by-test (room (length out) at (length m)) e
-    where
-      by-test : (b : Bool) → given b .answer ≡ Number.Refused k → (b ≡ false) × (Number.Refused k ≡ Number.Refused (refusal 13)) × (given b .out ≡ out)
-      by-test true d = absurd (value-not-refused _ k d)
-      by-test false d = (refl, sym d, refl)
 
 -- the message stands in the buffer
 record Standing (m out : List ℕ) (at next : ℕ) : Type 0 where

@@ -10,13 +10,17 @@ use Rattle.config.specs.Refusals.{refusal}
 use Rattle.config.specs.declared.answer.Refusal.{Refusal}
 use Rattle.config.specs.declared.answer.Verdict.{Verdict}
 use Rattle.config.specs.declared.answer.Number.{Number}
+use Rattle.ledger.specs.declared.ledger.Ledger.{Ledger}
+use Rattle.ledger.specs.Ledgers.{freshLedger}
 use Rattle.replica.specs.declared.register.Register.{Register}
 use Rattle.replica.specs.declared.replica.Replica.{Replica}
 use Rattle.replica.specs.Values.{valueOf}
+use Rattle.replica.specs.Registers.{startRegister}
 use Rattle.replica.specs.Replicas.{freshReplica}
 use Rattle.message.specs.declared.envelope.Envelope.{Envelope}
 use Rattle.message.specs.declared.state.RegisterRead.{RegisterRead}
 use Rattle.message.specs.declared.answer.Received.{Received}
+use Rattle.message.specs.declared.answer.Taken.{Taken}
 use Rattle.message.specs.declared.answer.Fields.{Fields}
 use Rattle.message.specs.Envelopes.{blankEnvelope, messageOf}
 use Rattle.message.specs.Scans.{Scan, scanOf}
@@ -56,6 +60,16 @@ refusedOf k = record { verdict = Verdict.Refused k; envelope = blankEnvelope; re
 -- What bytes say: an envelope and a replica, or the number of the first fault.
 unfoldable pub receiveOf : Config → List ℕ → Received
 receiveOf c msg = cond (eqb (check c msg) 0) (acceptedOf (scanOf c msg) msg) (refusedOf (refusal (check c msg)))
+
+-- the same but for the ledger, and the ledger, which beside a refusal has the rows that were read before the fault
+unfoldable pub takenOf : Config → List ℕ → Taken
+takenOf c msg = let x = receiveOf c msg in record { verdict = x .verdict; envelope = x .envelope; register = x .replica .register }
+
+abbrev pub untakenOf : Refusal → Taken
+untakenOf k = record { verdict = Verdict.Refused k; envelope = blankEnvelope; register = startRegister }
+
+unfoldable pub takenLedger : Config → List ℕ → Ledger
+takenLedger c msg = cond (validOf c) (scanOf c msg .ledger) freshLedger
 
 -- "another call gives the other fields or the number": all but the value
 unfoldable pub fieldsAnswer : Config → List ℕ → Fields

@@ -3,6 +3,7 @@ use super::envelope::Envelope;
 use config::Refusal;
 use config::Verdict;
 use ledger::Ledger;
+use replica::Register;
 use replica::Replica;
 ghost use mathlib.Core.Path.{_≡_};
 ghost use Rattle.message.specs.Answers.{refusedOf};
@@ -25,6 +26,13 @@ impl Received {
             replica: Replica::fresh(),
         }
     }
+}
+
+// What bytes say but for the ledger, which goes into arrays that are lent.
+pub struct Taken {
+    pub verdict: Verdict,
+    pub envelope: Envelope,
+    pub register: Register,
 }
 
 // A register's tag.

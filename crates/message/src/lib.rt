@@ -7,6 +7,7 @@ mod state;
 pub use answer::Fields;
 pub use answer::Received;
 pub use answer::Tag;
+pub use answer::Taken;
 pub use envelope::Envelope;
 pub use envelope::REPLY;
 pub use envelope::REQUEST;

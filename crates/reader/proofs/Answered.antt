@@ -1,4 +1,4 @@
--- What is answered, from the number of the check and from the sums of the sheet.
+-- What is answered, from the number of the check, from what was taken and from the sums of the sheet.
 use Prim.Native.Nat.{ℕ, _+_, _≤_}
 use native.Mathlib.Omega.{arith}
 use mathlib.Core.Path.{_≡_, sym, ap, ap₂, _∙_}
@@ -16,17 +16,21 @@ use Rattle.config.specs.declared.cluster.Config.{Config}
 use Rattle.config.specs.declared.answer.Signed.{Signed}
 use Rattle.config.specs.declared.answer.Decision.{Decision}
 use Rattle.format.specs.Bytes.{bit}
-use Rattle.ledger.specs.Ledgers.{receivedOf, givenOf, Typed}
+use Rattle.ledger.specs.Ledgers.{freshLedger, receivedOf, givenOf, Typed}
 use Rattle.ledger.specs.Maps.{named, mapOf}
 use Rattle.ledger.specs.Weights.{weightAnswer, quorumAnswer}
 use Rattle.ledger.specs.Tables.{table}
 use Rattle.message.specs.Scans.{headOf, registerOf, scanOf}
 use Rattle.message.specs.declared.state.RegisterRead.{RegisterRead}
 use Rattle.message.specs.declared.answer.Received.{Received}
-use Rattle.message.specs.Answers.{check, verdictOf, checkAnswer, valuePart, receiveOf, valueAnswer}
+use Rattle.message.specs.declared.answer.Taken.{Taken}
+use Rattle.message.specs.declared.envelope.Envelope.{Envelope}
+use Rattle.message.specs.Answers.{check, verdictOf, checkAnswer, valuePart, keptOf, refusedOf, receiveOf, untakenOf, takenOf, takenLedger, valueAnswer}
 use Rattle.message.proofs.Numbers.{scan-most}
 use Rattle.message.proofs.Parts.{value-within}
 use Rattle.message.proofs.Rounds.{check-told, received}
+use Rattle.message.proofs.Envelopes.{receive-refused}
+use Rattle.message.proofs.Taken.{taken-ledger}
 use Rattle.message.proofs.SheetBacks.{ledger-typed}
 use Rattle.reader.specs.Weighings.{weightIn, quorumIn}
 use Rattle.ledger.specs.Sums.{Sums, accountsIn}
@@ -39,7 +43,7 @@ pub check-invalid : (c : Config) (msg : List ℕ) → validOf c ≡ false → ch
 unfolding check
 check-invalid c msg e = simp e
 
-pub check-found : (c : Config) (msg : List ℕ) (k : ℕ) → validOf c ≡ true → k ≡ scanOf c msg .number → check c msg ≡ k
+check-found : (c : Config) (msg : List ℕ) (k : ℕ) → validOf c ≡ true → k ≡ scanOf c msg .number → check c msg ≡ k
 unfolding check
 check-found c msg k v e = simp v (sym e)
 
@@ -62,20 +66,64 @@ module _ (c : Config) (msg : List ℕ) (k : ℕ) (valid : validOf c ≡ true) (f
 pub found-refusal : (c : Config) (msg : List ℕ) (k : ℕ) → k ≡ scanOf c msg .number → (k ≡ 0 → ⊥) → (1 ≤ k) × (k ≤ mostRefusal)
 found-refusal c msg k found ne = omega (arith, ne, found, scan-most c msg)
 
+-- ---- what is taken
+
+-- a cluster that isn't lawful
+module _ (c : Config) (msg : List ℕ) (invalid : validOf c ≡ false) where
+  pub taken-invalid : untakenOf (refusal 1) ≡ takenOf c msg
+  unfolding takenOf receiveOf
+  taken-invalid = simp (check-invalid c msg invalid)
+
+  pub ledger-invalid : freshLedger ≡ takenLedger c msg
+  unfolding takenLedger
+  ledger-invalid = simp invalid
+
+-- and one that is
+pub ledger-valid : (c : Config) (msg : List ℕ) → validOf c ≡ true → scanOf c msg .ledger ≡ takenLedger c msg
+unfolding takenLedger
+ledger-valid c msg valid = simp valid
+
+module _ (c : Config) (msg : List ℕ) (k : ℕ) (valid : validOf c ≡ true) (found : k ≡ scanOf c msg .number) where
+  pub taken-refused : (r : Refusal) → (k ≡ 0 → ⊥) → r ≡ refusal k → untakenOf r ≡ takenOf c msg
+  unfolding takenOf receiveOf
+  taken-refused r ne is = simp (check-found c msg k valid found, ne-eqb k 0 ne) (ap untakenOf is)
+
+  pub taken-passed : k ≡ 0 → {e : Envelope} {r : RegisterRead} → e ≡ scanOf c msg .envelope → r ≡ scanOf c msg .register
+      → record { verdict = Verdict.Accepted; envelope = e; register = keptOf msg r } ≡ takenOf c msg
+  unfolding takenOf receiveOf
+  taken-passed z p q = rw (p, q) (simp (check-found c msg k valid found, eq-eqb k 0 z))
+
+-- what is received, by what was taken
+module _ (c : Config) (msg : List ℕ) (t : Taken) (is : t ≡ takenOf c msg) where
+  received-told : t .verdict ≡ receiveOf c msg .verdict
+  unfolding takenOf
+  received-told = ap (λ (x : Taken). x .verdict) is
+
+  pub received-refused : (r : Refusal) → t .verdict ≡ Verdict.Refused r → refusedOf r ≡ receiveOf c msg
+  received-refused r e = sym (receive-refused c msg r (sym received-told ∙ e))
+
+  pub received-passed : {counts cells : List ℕ} → counts ≡ takenLedger c msg .counts → cells ≡ takenLedger c msg .cells → t .verdict ≡ Verdict.Accepted
+      → record { verdict = Verdict.Accepted; envelope = t .envelope; replica = record { ledger = record { counts = counts; cells = cells }; register = t .register } }
+      ≡ receiveOf c msg
+  unfolding takenOf
+  received-passed p q e =
+      let told = sym received-told ∙ e in
+      rw (p, q, taken-ledger c msg told, is, ← told)
+
 -- ---- the value, from the register
 
 module _ (c : Config) (msg : List ℕ) (r : RegisterRead) (register : r ≡ registerOf c msg (bit (headOf c msg .map) 4) (headOf c msg .cursor)) where
-  scanned : r ≡ scanOf c msg .register
+  pub register-scanned : r ≡ scanOf c msg .register
   unfolding scanOf
-  scanned = register
+  register-scanned = register
 
   -- it lies within the message
   pub register-within : scanOf c msg .number ≡ 0 → r .from + r .length ≤ length msg
-  register-within e = rw scanned (value-within c msg e)
+  register-within e = rw register-scanned (value-within c msg e)
 
   pub register-value : check c msg ≡ 0 → valuePart msg r ≡ valueAnswer c msg
   unfolding valueAnswer
-  register-value e = rw scanned (simp (eq-eqb (check c msg) 0 e))
+  register-value e = rw register-scanned (simp (eq-eqb (check c msg) 0 e))
 
 -- ---- the sums of a scan are small
 

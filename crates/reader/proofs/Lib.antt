@@ -4,8 +4,8 @@ pub mod Steps
 pub mod Absent
 pub mod Rows
 pub mod Rests
-pub mod Placed
 pub mod Weighed
+pub mod Turns
 pub mod Scanned
 pub mod Answered
 pub mod Published

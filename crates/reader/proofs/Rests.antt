@@ -4,12 +4,10 @@ use Prim.Native.Nat.{ℕ, zero, suc, _+_, _*_, _-_, _/_, _%_, _^_, _≤_, _<_}
 use native.Mathlib.Nat.{div-div-eq-div-mul, div-eq-of-lt, lt-of-lt-of-le, pow-le-pow-right, pow-succ'}
 use native.Mathlib.Numerals.{add-one}
 use native.Mathlib.Omega.{arith}
-use mathlib.Core.Path.{_≡_, refl, sym, ap, _∙_}
+use mathlib.Core.Path.{_≡_, sym, ap, _∙_}
 use mathlib.Core.Logic.{⊎-elim}
-use mathlib.Core.Bool.{Bool, true, false, cond}
 use mathlib.Core.List.{List}
 use borrow.Author.Tests.{eq-eqb, ltb-true, lt-ltb, le-ltb}
-use lib.Dec.{ltb}
 use Rattle.quorums.proofs.Tests.{le-or-lt}
 use Rattle.config.specs.declared.cluster.Config.{Config}
 use Rattle.ledger.proofs.Maps.{shifted-zero}
@@ -42,7 +40,7 @@ rest-inside m j r l e n =
     small : m ≤ 65535 → m < 2 ^ 16
     small h = omega arith
 
-pub rest-done : (m j k : ℕ) → m / 2 ^ j ≡ 0 → j ≤ k → bit m k ≡ 0
+rest-done : (m j k : ℕ) → m / 2 ^ j ≡ 0 → j ≤ k → bit m k ≡ 0
 rest-done m j k e l = bit-above m j k (ltb-true m (2 ^ j) (sym (shifted-zero m j) ∙ eq-eqb (m / 2 ^ j) 0 e)) l
 
 -- ---- steps that read nothing
@@ -54,18 +52,11 @@ stayed f j h (suc d) =
     let e : j + suc d ≡ suc (j + d) = omega arith in
     rw e (h (suc (j + d)) (omega arith) ∙ ap (λ (c : Cursor). stay (c .number) c) (stayed f j h d))
 
-pub settles : (f : ℕ → Cursor) (j : ℕ) → j ≤ 16 → ((k : ℕ) → j ≤ k → f (suc k) ≡ stay (f k .number) (f k)) → settled j (f j) ≡ f 16
+settles : (f : ℕ → Cursor) (j : ℕ) → j ≤ 16 → ((k : ℕ) → j ≤ k → f (suc k) ≡ stay (f k .number) (f k)) → settled j (f j) ≡ f 16
 settles f j l h =
     ⊎-elim (λ (g : 16 ≤ j). let e : j ≡ 16 = omega arith in rw (le-ltb j 16 g) (ap f e))
     (λ (g : j < 16). let e : 16 ≡ suc (j + (15 - j)) = omega arith in rw (lt-ltb j 16 g) (sym (ap f e ∙ stayed f j h (15 - j))))
     (le-or-lt 16 j)
-
-settled-at : (j : ℕ) (c : Cursor) → settled j c .at ≡ c .at
-settled-at j c = by-test (ltb j 16)
-  where
-    by-test : (b : Bool) → cond b (stay (c .number) c) c .at ≡ c .at
-    by-test true = refl
-    by-test false = refl
 
 -- a chain of steps that stay once there is a number keeps it
 keeps : (f : ℕ → Cursor) (j : ℕ) → ((k : ℕ) → (f k .number ≡ 0 → ⊥) → f (suc k) ≡ stay (f k .number) (f k)) → (f j .number ≡ 0 → ⊥)
@@ -75,30 +66,19 @@ keeps f j h n (suc d) =
     let e : j + suc d ≡ suc (j + d) = omega arith in
     rw (e, h (j + d) (keeps f j h n d)) (keeps f j h n d)
 
-pub kept : (f : ℕ → Cursor) (j : ℕ) → ((k : ℕ) → (f k .number ≡ 0 → ⊥) → f (suc k) ≡ stay (f k .number) (f k)) → (f j .number ≡ 0 → ⊥)
+kept : (f : ℕ → Cursor) (j : ℕ) → ((k : ℕ) → (f k .number ≡ 0 → ⊥) → f (suc k) ≡ stay (f k .number) (f k)) → (f j .number ≡ 0 → ⊥)
     → (k : ℕ) → j ≤ k → f k .number ≡ 0 → ⊥
 kept f j h n k l = let e : k ≡ j + (k - j) = omega arith in rw e (keeps f j h n (k - j))
-
--- so where there is none, there was none before
-clean-before : (f : ℕ → Cursor) (j k : ℕ) → ((k : ℕ) → (f k .number ≡ 0 → ⊥) → f (suc k) ≡ stay (f k .number) (f k)) → j ≤ k → f k .number ≡ 0 → f j .number ≡ 0
-clean-before f j k h l e = by-number (f j .number) refl
-  where
-    by-number : (n : ℕ) → f j .number ≡ n → f j .number ≡ 0
-    by-number zero t = t
-    by-number (suc n) t = absurd (kept f j h (λ z. omega arith) k l e)
 
 -- ---- cells
 
 -- a cell that doesn't stand
-pub cell-unset : (msg : List ℕ) (m : ℕ) (from : Cursor) (k : ℕ) → bit m k ≡ 0 → cellsAfter msg m from (suc k) ≡ stay (cellsAfter msg m from k .number) (cellsAfter msg m from k)
+cell-unset : (msg : List ℕ) (m : ℕ) (from : Cursor) (k : ℕ) → bit m k ≡ 0 → cellsAfter msg m from (suc k) ≡ stay (cellsAfter msg m from k .number) (cellsAfter msg m from k)
 unfolding cellsAfter
 cell-unset msg m from k e = rw e (number-absent msg _ _ _ (cellsAfter msg m from k))
 
 pub cells-settle : (msg : List ℕ) (m : ℕ) (from : Cursor) (j : ℕ) → j ≤ 16 → m / 2 ^ j ≡ 0 → settled j (cellsAfter msg m from j) ≡ cellsAfter msg m from 16
 cells-settle msg m from j l e = settles (cellsAfter msg m from) j l (λ k g. cell-unset msg m from k (rest-done m j k e g))
-
-pub cells-end : (msg : List ℕ) (m : ℕ) (from : Cursor) (j : ℕ) → j ≤ 16 → m / 2 ^ j ≡ 0 → cellsAfter msg m from j .at ≡ cellsAfter msg m from 16 .at
-cells-end msg m from j l e = sym (settled-at j _) ∙ ap (λ (c : Cursor). c .at) (cells-settle msg m from j l e)
 
 pub cell-beyond : (msg : List ℕ) (m : ℕ) (from : Cursor) (j k : ℕ) → m / 2 ^ j ≡ 0 → j ≤ k → cellRead msg m from k ≡ 0
 unfolding cellRead
@@ -109,9 +89,6 @@ cell-stays : (msg : List ℕ) (m : ℕ) (from : Cursor) (k : ℕ) → (cellsAfte
     → cellsAfter msg m from (suc k) ≡ stay (cellsAfter msg m from k .number) (cellsAfter msg m from k)
 unfolding cellsAfter
 cell-stays msg m from k n = number-stays msg _ _ _ _ (cellsAfter msg m from k) n
-
-pub cells-before : (msg : List ℕ) (m : ℕ) (from : Cursor) (j k : ℕ) → j ≤ k → cellsAfter msg m from k .number ≡ 0 → cellsAfter msg m from j .number ≡ 0
-cells-before msg m from j k l e = clean-before (cellsAfter msg m from) j k (cell-stays msg m from) l e
 
 pub cells-fault : (msg : List ℕ) (m : ℕ) (from : Cursor) (j : ℕ) → j < 16 → (cellsAfter msg m from (j + 1) .number ≡ 0 → ⊥)
     → settled (j + 1) (cellsAfter msg m from (j + 1)) ≡ cellsAfter msg m from 16
@@ -134,26 +111,27 @@ row-of-unset : (c : Config) (msg : List ℕ) (m : ℕ) (from : Cursor) (k : ℕ)
     → rowOf c msg k (bit m k) (rowsAfter c msg m from k) ≡ record { count = 0; cursor = stay (rowsAfter c msg m from k .number) (rowsAfter c msg m from k) }
 row-of-unset c msg m from k e = ap (λ s. rowOf c msg k s (rowsAfter c msg m from k)) e ∙ row-absent c msg k (rowsAfter c msg m from k)
 
-pub row-unset : (c : Config) (msg : List ℕ) (m : ℕ) (from : Cursor) (k : ℕ) → bit m k ≡ 0 → rowsAfter c msg m from (suc k) ≡ stay (rowsAfter c msg m from k .number) (rowsAfter c msg m from k)
+row-unset : (c : Config) (msg : List ℕ) (m : ℕ) (from : Cursor) (k : ℕ) → bit m k ≡ 0 → rowsAfter c msg m from (suc k) ≡ stay (rowsAfter c msg m from k .number) (rowsAfter c msg m from k)
 unfolding rowsAfter
 row-unset c msg m from k e = ap (λ (r : RowRead). r .cursor) (row-of-unset c msg m from k e)
 
-pub count-unset : (c : Config) (msg : List ℕ) (m : ℕ) (from : Cursor) (k : ℕ) → bit m k ≡ 0 → countRead c msg m from k ≡ 0
+count-unset : (c : Config) (msg : List ℕ) (m : ℕ) (from : Cursor) (k : ℕ) → bit m k ≡ 0 → countRead c msg m from k ≡ 0
 unfolding countRead
 count-unset c msg m from k e = ap (λ (r : RowRead). r .count) (row-of-unset c msg m from k e)
 
-pub row-cells-unset : (c : Config) (msg : List ℕ) (m : ℕ) (from : Cursor) (k : ℕ) → bit m k ≡ 0 → (j : ℕ) → cellOfRow c msg m from k j ≡ 0
+row-cells-unset : (c : Config) (msg : List ℕ) (m : ℕ) (from : Cursor) (k : ℕ) → bit m k ≡ 0 → (j : ℕ) → cellOfRow c msg m from k j ≡ 0
 unfolding cellOfRow
 row-cells-unset c msg m from k e j = ap (λ s. rowCells c msg k s (rowsAfter c msg m from k) j) e ∙ row-cell-absent c msg k (rowsAfter c msg m from k) j
 
 pub rows-settle : (c : Config) (msg : List ℕ) (m : ℕ) (from : Cursor) (i : ℕ) → i ≤ 16 → m / 2 ^ i ≡ 0 → settled i (rowsAfter c msg m from i) ≡ rowsAfter c msg m from 16
 rows-settle c msg m from i l e = settles (rowsAfter c msg m from) i l (λ k g. row-unset c msg m from k (rest-done m i k e g))
 
-pub rows-end : (c : Config) (msg : List ℕ) (m : ℕ) (from : Cursor) (i : ℕ) → i ≤ 16 → m / 2 ^ i ≡ 0 → rowsAfter c msg m from i .at ≡ rowsAfter c msg m from 16 .at
-rows-end c msg m from i l e = sym (settled-at i _) ∙ ap (λ (d : Cursor). d .at) (rows-settle c msg m from i l e)
+-- no row from i on has a count or a cell
+abbrev pub NoRows : Config → List ℕ → ℕ → Cursor → ℕ → Type 0
+NoRows c msg m from i = (r : ℕ) → i ≤ r → (countRead c msg m from r ≡ 0) × ((j : ℕ) → cellOfRow c msg m from r j ≡ 0)
 
-pub row-beyond : (c : Config) (msg : List ℕ) (m : ℕ) (from : Cursor) (i k : ℕ) → m / 2 ^ i ≡ 0 → i ≤ k → (j : ℕ) → cellOfRow c msg m from k j ≡ 0
-row-beyond c msg m from i k e l j = row-cells-unset c msg m from k (rest-done m i k e l) j
+pub rows-beyond : (c : Config) (msg : List ℕ) (m : ℕ) (from : Cursor) (i : ℕ) → m / 2 ^ i ≡ 0 → NoRows c msg m from i
+rows-beyond c msg m from i e r l = let none = rest-done m i r e l in (count-unset c msg m from r none, row-cells-unset c msg m from r none)
 
 -- where a row has a fault, no later one is read
 row-stays : (c : Config) (msg : List ℕ) (m : ℕ) (from : Cursor) (k : ℕ) → (rowsAfter c msg m from k .number ≡ 0 → ⊥)
@@ -162,18 +140,18 @@ unfolding rowsAfter
 row-stays c msg m from k n =
     ap (λ (r : RowRead). r .cursor) (row-stuck c msg k _ (rowsAfter c msg m from k) n ∙ row-absent c msg k (rowsAfter c msg m from k))
 
-pub rows-before : (c : Config) (msg : List ℕ) (m : ℕ) (from : Cursor) (i k : ℕ) → i ≤ k → rowsAfter c msg m from k .number ≡ 0 → rowsAfter c msg m from i .number ≡ 0
-rows-before c msg m from i k l e = clean-before (rowsAfter c msg m from) i k (row-stays c msg m from) l e
+module _ (c : Config) (msg : List ℕ) (m : ℕ) (from : Cursor) (i : ℕ) (fault : rowsAfter c msg m from i .number ≡ 0 → ⊥) where
+  faulty : (k : ℕ) → i ≤ k → rowsAfter c msg m from k .number ≡ 0 → ⊥
+  faulty = kept (rowsAfter c msg m from) i (row-stays c msg m from) fault
 
-pub rows-fault : (c : Config) (msg : List ℕ) (m : ℕ) (from : Cursor) (i : ℕ) → i < 16 → (rowsAfter c msg m from (i + 1) .number ≡ 0 → ⊥)
-    → settled (i + 1) (rowsAfter c msg m from (i + 1)) ≡ rowsAfter c msg m from 16
-rows-fault c msg m from i l n =
-    settles (rowsAfter c msg m from) (i + 1) (omega arith)
-    (λ k g. row-stays c msg m from k (kept (rowsAfter c msg m from) (i + 1) (row-stays c msg m from) n k g))
+  pub rows-fault : i ≤ 16 → settled i (rowsAfter c msg m from i) ≡ rowsAfter c msg m from 16
+  rows-fault l = settles (rowsAfter c msg m from) i l (λ k g. row-stays c msg m from k (faulty k g))
 
-pub row-after-fault : (c : Config) (msg : List ℕ) (m : ℕ) (from : Cursor) (i k : ℕ) → (rowsAfter c msg m from (i + 1) .number ≡ 0 → ⊥) → i + 1 ≤ k
-    → (j : ℕ) → cellOfRow c msg m from k j ≡ 0
-unfolding cellOfRow
-row-after-fault c msg m from i k n l j =
-    row-cell-stuck c msg k _ (rowsAfter c msg m from k) j (kept (rowsAfter c msg m from) (i + 1) (row-stays c msg m from) n k l)
-    ∙ row-cell-absent c msg k (rowsAfter c msg m from k) j
+  pub rows-after-fault : NoRows c msg m from i
+  unfolding countRead cellOfRow
+  rows-after-fault r l =
+      let at = rowsAfter c msg m from r in
+      let stuck = faulty r l in (
+        ap (λ (x : RowRead). x .count) (row-stuck c msg r _ at stuck ∙ row-absent c msg r at),
+        λ j. row-cell-stuck c msg r _ at j stuck ∙ row-cell-absent c msg r at j,
+      )

@@ -44,8 +44,8 @@ pub record Filled (f : ℕ → ℕ → ℕ) (xs : List ℕ) (i : ℕ) : Type 0 w
   pub done : (m : ℕ) → m < i * 16 → getD xs m 0 ≡ f (m / 16) (m % 16)
   pub left : (m : ℕ) → i * 16 ≤ m → m < 256 → getD xs m 0 ≡ 0
 
-pub rows-none : (f : ℕ → ℕ → ℕ) → Filled f (replicate 256 0) 0
-rows-none f = record { size = length-replicate {A = ℕ} 256 0; done = λ m l. absurd (omega arith); left = λ m l k. getD-replicate 256 m 0 0 k }
+pub cells-blank : (f : ℕ → ℕ → ℕ) → Filled f (replicate 256 0) 0
+cells-blank f = record { size = length-replicate {A = ℕ} 256 0; done = λ m l. absurd (omega arith); left = λ m l k. getD-replicate 256 m 0 0 k }
 
 -- the part of row i is all 0
 pub row-blank : (f : ℕ → ℕ → ℕ) (xs : List ℕ) (i k : ℕ) → k ≡ 16 → i < 16 → Filled f xs i → take k (drop (i * 16) xs) ≡ replicate 16 0
@@ -92,23 +92,9 @@ pub row-next : (f : ℕ → ℕ → ℕ) (xs ys : List ℕ) (i k : ℕ) → k �
     → Filled f (spliced xs (i * 16) k ys) (i + 1)
 row-next f xs ys i k e p l h = rw (e, p) (row-more f xs i l h)
 
--- a row of f that is all 0 is there already
-pub row-same : (f : ℕ → ℕ → ℕ) (xs : List ℕ) (i : ℕ) → i < 16 → ((j : ℕ) → f i j ≡ 0) → Filled f xs i → Filled f xs (i + 1)
-row-same f xs i l none h =
-    record {
-      size = h .size;
-      done =
-          λ m k.
-          ⊎-elim
-          (λ (r : i * 16 ≤ m). let row : m / 16 ≡ i = omega arith in rw row (h .left m r (omega arith) ∙ sym (none (m % 16))))
-          (λ (r : m < i * 16). h .done m r)
-          (le-or-lt (i * 16) m);
-      left = λ m k b. h .left m (omega arith) b;
-    }
-
 -- where the rows from i on are all 0, the rest is done
-pub rows-all : (f : ℕ → ℕ → ℕ) (xs : List ℕ) (i : ℕ) → ((r : ℕ) → i ≤ r → (j : ℕ) → f r j ≡ 0) → Filled f xs i → xs ≡ table 256 (λ k. f (k / 16) (k % 16))
-rows-all f xs i none h =
+pub cells-all : (f : ℕ → ℕ → ℕ) (xs : List ℕ) (i : ℕ) → ((r : ℕ) → i ≤ r → (j : ℕ) → f r j ≡ 0) → Filled f xs i → xs ≡ table 256 (λ k. f (k / 16) (k % 16))
+cells-all f xs i none h =
     is-table 256 (λ k. f (k / 16) (k % 16)) xs (h .size)
     (λ m k.
     ⊎-elim (λ (r : i * 16 ≤ m). h .left m r k ∙ sym (none (m / 16) (omega arith) (m % 16))) (λ (r : m < i * 16). h .done m r) (le-or-lt (i * 16) m))

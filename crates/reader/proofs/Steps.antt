@@ -1,16 +1,15 @@
 -- The reader's steps as the loops and calls take them: one more turn of a definition, from what the calls of that turn gave.
-use Prim.Native.Nat.{ℕ, _+_, _/_, _%_}
+use Prim.Native.Nat.{ℕ, _+_}
 use native.Mathlib.Numerals.{add-one}
 use mathlib.Core.Path.{_≡_, ap}
 use mathlib.Core.Bool.{Bool}
 use mathlib.Core.List.{List}
 use borrow.Author.Tests.{ne-eqb}
 use Rattle.config.specs.declared.cluster.Config.{Config}
-use Rattle.ledger.specs.Tables.{table}
 use Rattle.format.specs.Bytes.{bit}
 use Rattle.message.specs.declared.state.Cursor.{Cursor}
 use Rattle.message.specs.Cursors.{readNumber, require}
-use Rattle.message.specs.Scans.{cellsAfter, cellRead, readCount, cellMapOf, rowCells, countRead, cellOfRow, ledgerRead}
+use Rattle.message.specs.Scans.{cellsAfter, cellRead, readCount, cellMapOf, rowCells, rowOf}
 
 -- a test leaves a cursor that has a number
 pub require-stays : (ok : Bool) (k : ℕ) (c : Cursor) → (c .number ≡ 0 → ⊥) → require ok k c ≡ c
@@ -27,14 +26,12 @@ pub cell-next : (msg : List ℕ) (m : ℕ) (from : Cursor) (j : ℕ) {d : Cursor
 unfolding cellRead
 cell-next msg m from j p = ap (λ (c : Cursor). c .x) (rw add-one at p)
 
--- the cells of a row, from its count and its cell map
+-- the count of a row, and its cells, from the count and the cell map
+pub row-count : (c : Config) (msg : List ℕ) (i s : ℕ) (from : Cursor) {count : Cursor} → count ≡ readNumber msg s 2 1 65535 from → count .x ≡ rowOf c msg i s from .count
+unfolding rowOf readCount
+row-count c msg i s from p = ap (λ (d : Cursor). d .x) p
+
 pub row-cell : (c : Config) (msg : List ℕ) (i s : ℕ) (from : Cursor) {count m : Cursor} → count ≡ readNumber msg s 2 1 65535 from
     → m ≡ cellMapOf c msg i s count → (j : ℕ) → cellRead msg (m .x) m j ≡ rowCells c msg i s from j
 unfolding rowCells readCount
 row-cell c msg i s from p q j = rw (← p, ← q)
-
--- the ledger of a sheet
-pub ledger-is : (c : Config) (msg : List ℕ) (m : ℕ) (from : Cursor) {counts cells : List ℕ} → counts ≡ table 16 (countRead c msg m from)
-    → cells ≡ table 256 (λ k. cellOfRow c msg m from (k / 16) (k % 16)) → record { counts = counts; cells = cells } ≡ ledgerRead c msg m from
-unfolding ledgerRead
-ledger-is c msg m from p q = rw (p, q)

@@ -17,6 +17,7 @@ use Rattle.message.specs.declared.state.Cursor.{Cursor}
 use Rattle.message.specs.Scans.{cellsAfter, cellRead, rowCells, rowOf, rowsAfter, cellOfRow, ledgerRead}
 use Rattle.message.proofs.Backs.{number-most}
 use Rattle.ledger.proofs.Tallies.{Tallied, tally-zeros, sum-all}
+use Rattle.reader.proofs.Rests.{NoRows}
 
 -- ---- one row more
 
@@ -69,11 +70,11 @@ module _ (c : Config) (msg : List ℕ) (m : ℕ) (from : Cursor) where
   ledger-given i k = sum-same 16 _ _ (λ j l. sym (ledger-cell i j k l))
 
   -- the sums of i rows are those of all where the others are empty
-  module _ (i : ℕ) (most : i ≤ 16) (empty : (r : ℕ) → i ≤ r → (j : ℕ) → cellOfRow c msg m from r j ≡ 0) where
+  module _ (i : ℕ) (most : i ≤ 16) (empty : NoRows c msg m from i) where
     pub rows-received : (xs : List ℕ) → length xs ≡ 16 → ((k : ℕ) → k < 16 → getD xs k 0 ≡ sum i (λ r. cellOfRow c msg m from r k))
         → xs ≡ table 16 (receivedOf (ledgerRead c msg m from))
-    rows-received xs size sums = is-table 16 _ xs size (λ k l. sums k l ∙ sum-all _ i most (λ r g. empty r g k) ∙ ledger-received k l)
+    rows-received xs size sums = is-table 16 _ xs size (λ k l. sums k l ∙ sum-all _ i most (λ r g. empty r g .1 k) ∙ ledger-received k l)
 
     pub rows-given : (xs ys : List ℕ) → xs ≡ replicate 16 0 → Tallied (λ r. sum 16 (cellOfRow c msg m from r)) xs ys i
         → ys ≡ table 16 (givenOf (ledgerRead c msg m from))
-    rows-given xs ys blank sums = tally-zeros _ xs ys i blank sums (λ r g. sum-zero 16 _ (λ j l. empty r g j)) ∙ table-same 16 _ _ ledger-given
+    rows-given xs ys blank sums = tally-zeros _ xs ys i blank sums (λ r g. sum-zero 16 _ (λ j l. empty r g .1 j)) ∙ table-same 16 _ _ ledger-given

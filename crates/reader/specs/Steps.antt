@@ -1,13 +1,9 @@
--- Cursors: without a fault at a place, and after steps that read nothing.
+-- A cursor after steps that read nothing.
 use Prim.Native.Nat.{ℕ}
 use mathlib.Core.Bool.{cond}
 use lib.Dec.{ltb}
 use Rattle.message.specs.declared.state.Cursor.{Cursor}
 use Rattle.message.specs.Cursors.{stay}
-
--- the cursor at a place, without a fault
-abbrev pub place : ℕ → Cursor
-place at = record { number = 0; at = at; x = 0 }
 
 -- the cursor after 16 steps, of which the last 16 - j read nothing
 abbrev pub settled : ℕ → Cursor → Cursor

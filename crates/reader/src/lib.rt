@@ -14,5 +14,6 @@ pub use read::check;
 pub use read::fields;
 pub use read::quorum;
 pub use read::receive;
+pub use read::receive_lent;
 pub use read::value;
 pub use read::weight;

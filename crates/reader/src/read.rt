@@ -1,21 +1,26 @@
 // The calls.
+use super::scan::finish;
 use super::scan::refusal;
 use super::scan::scan;
 use super::scan::weigh_message;
 use super::sums::is_quorum;
 use super::sums::weight_of;
-use super::whole::received_in;
 use super::whole::register_in;
+use super::whole::taken_in;
+use super::whole::untaken;
 use config::Config;
 use config::Decision;
 use config::Refusal;
 use config::Signed;
 use config::Verdict;
+use ledger::Ledger;
 use message::Fields;
 use message::Received;
 use message::Tag;
+use message::Taken;
+use replica::Replica;
 ghost use mathlib.Core.Path.{_≡_};
-ghost use Rattle.message.specs.Answers.{checkAnswer, receiveOf, fieldsAnswer, valueAnswer};
+ghost use Rattle.message.specs.Answers.{checkAnswer, receiveOf, takenOf, takenLedger, fieldsAnswer, valueAnswer};
 ghost use Rattle.reader.specs.Weighings.{weightIn, quorumIn};
 
 // The message check: 1 for the cluster, then the first fault of the message.
@@ -27,22 +32,52 @@ pub fn check(config: Config, msg: &[u8]) -> Verdict
     }
     let mut received: [u64; 16] = [0; 16];
     let mut given: [u64; 16] = [0; 16];
-    let number = scan(config, msg, &mut received, &mut given);
-    if number != 0 {
-        return Verdict::Refused(refusal(number));
+    let note = scan(config, msg, &mut received, &mut given);
+    let end = finish(config, msg, &received, &given, note);
+    if end.number != 0 {
+        return Verdict::Refused(refusal(end.number));
     }
     Verdict::Accepted
 }
 
-// What a message says: its envelope and its replica, or the refusal that `check` gives beside a blank envelope and a fresh replica. They are taken once
-// the message has passed.
+// What a message says: its envelope and its replica, or the refusal that `check` gives beside a blank envelope and a fresh replica.
 pub fn receive(config: Config, msg: &[u8]) -> Received
     ensures { λ r. ⌜ r ≡ receiveOf config (now (msg .entry)) ⌝ }
 {
-    match check(config, msg) {
-        Verdict::Accepted => received_in(config, msg),
+    let mut counts: [u16; 16] = [0; 16];
+    let mut cells: [u32; 256] = [0; 256];
+    let taken = receive_lent(config, msg, &mut counts, &mut cells);
+    let verdict = taken.verdict;
+    let envelope = taken.envelope;
+    let register = taken.register;
+    match verdict {
+        Verdict::Accepted => Received {
+            verdict: Verdict::Accepted,
+            envelope,
+            replica: Replica {
+                ledger: Ledger { counts, cells },
+                register,
+            },
+        },
         Verdict::Refused(r) => Received::refused(r),
     }
+}
+
+// The same with the ledger into two arrays that are lent, whatever they held before: beside a refusal they have the rows that were read before the fault.
+pub fn receive_lent(
+    config: Config,
+    msg: &[u8],
+    counts: &mut [u16; 16],
+    cells: &mut [u32; 256],
+) -> Taken
+    ensures { λ r. ⌜ (r ≡ takenOf config (now (msg .entry))) × (now (counts .exit) ≡ takenLedger config (now (msg .entry)) .counts) × (now (cells .exit) ≡ takenLedger config (now (msg .entry)) .cells) ⌝ }
+{
+    *counts = [0; 16];
+    *cells = [0; 256];
+    if !config.valid() {
+        return untaken(Refusal::BadHouse);
+    }
+    taken_in(config, msg, counts, cells)
 }
 
 // The same but for the value.

@@ -25,7 +25,7 @@ ghost use Rattle.message.specs.Cursors.{require as requireOf};
 ghost use Rattle.message.specs.Scans.{scanOf};
 ghost use Rattle.message.specs.Answers.{check, checkAnswer};
 ghost use Rattle.ledger.specs.Sums.{Sums, allAbove};
-ghost use Rattle.reader.specs.Sums.{SheetSums};
+ghost use Rattle.reader.specs.Sums.{fieldsOf, SheetSums};
 
 // No bytes are left over, and every weight is above the floor.
 pub(crate) fn finish(
@@ -45,12 +45,14 @@ pub(crate) fn finish(
     require(above_floor(config, received, given), 5, all)
 }
 
-// The number of the first fault, or 0, with what each server received and gave into two lists of zeros.
-pub(crate) fn scan(config: Config, msg: &[u8], received: &mut [u64], given: &mut [u64]) -> u64
+// The fields, up to the note, with what each server received and gave into two lists of zeros.
+pub(crate) fn scan(config: Config, msg: &[u8], received: &mut [u64], given: &mut [u64]) -> Cursor
     requires { ⌜ (validOf config ≡ true) × (now received ≡ replicate 16 0) × (now given ≡ replicate 16 0) ⌝ }
-    ensures { λ r. ⌜ (r ≡ scanOf config (now (msg .entry)) .number) × (now (received .exit) ≡ table 16 (receivedOf (scanOf config (now (msg .entry)) .ledger))) × (now (given .exit) ≡ table 16 (givenOf (scanOf config (now (msg .entry)) .ledger))) ⌝ }
+    ensures { λ r. ⌜ (r ≡ fieldsOf config (now (msg .entry))) × (now (received .exit) ≡ table 16 (receivedOf (scanOf config (now (msg .entry)) .ledger))) × (now (given .exit) ≡ table 16 (givenOf (scanOf config (now (msg .entry)) .ledger))) ⌝ }
 {
-    let head = read_head(config, msg);
+    // Lent on as a part, the message's place and length are stored one by one, as they were: lent on as it is, the pair would be read at once, for which
+    // a processor waits until both are in memory.
+    let head = read_head(config, &msg[0..]);
     let after_head = head.cursor;
     let register = read_register(config, msg, bit(head.map, 4), after_head);
     let after_register = register.cursor;
@@ -62,9 +64,7 @@ pub(crate) fn scan(config: Config, msg: &[u8], received: &mut [u64], given: &mut
         received,
         given,
     );
-    let note = read_number(msg, bit(head.map, 6), 4, 1, MOST_FOUR, sheet);
-    let end = finish(config, msg, received, given, note);
-    end.number
+    read_number(msg, bit(head.map, 6), 4, 1, MOST_FOUR, sheet)
 }
 
 // The refusal of a number that has one.
@@ -91,9 +91,10 @@ pub(crate) fn weigh_message(
     if !config.valid() {
         return Verdict::Refused(Refusal::BadHouse);
     }
-    let number = scan(config, msg, received, given);
-    if number != 0 {
-        return Verdict::Refused(refusal(number));
+    let note = scan(config, &msg[0..], received, given);
+    let end = finish(config, msg, received, given, note);
+    if end.number != 0 {
+        return Verdict::Refused(refusal(end.number));
     }
     Verdict::Accepted
 }

@@ -5,20 +5,23 @@ use super::cursor::read_number;
 use super::head::read_head;
 use super::register::kept;
 use super::register::read_register;
-use super::take::take_rows;
-use super::weigh::most_map;
+use super::scan::finish;
+use super::scan::refusal;
+use super::take::take_sheet;
 use config::Config;
+use config::Refusal;
 use config::Verdict;
 use message::Envelope;
-use message::Received;
 use message::RegisterRead;
-use replica::Replica;
+use message::Taken;
+use replica::Register;
 ghost use mathlib.Core.Path.{_≡_};
 ghost use mathlib.Core.Bool.{true};
+ghost use lib.ListN.{replicate};
 ghost use Rattle.config.specs.Cluster.{validOf};
 ghost use Rattle.format.specs.Bytes.{bit as bitOf};
 ghost use Rattle.message.specs.Scans.{headOf, registerOf, scanOf};
-ghost use Rattle.message.specs.Answers.{receiveOf};
+ghost use Rattle.message.specs.Answers.{takenOf, untakenOf};
 
 // The register of a message, and where its value lies.
 pub(crate) fn register_in(config: Config, msg: &[u8]) -> RegisterRead
@@ -30,28 +33,33 @@ pub(crate) fn register_in(config: Config, msg: &[u8]) -> RegisterRead
     read_register(config, msg, bit(head.map, 4), from)
 }
 
-// The envelope and the replica of a message that has passed, the value copied out of it.
-pub(crate) fn received_in(config: Config, msg: &[u8]) -> Received
-    requires { ⌜ (validOf config ≡ true) × (scanOf config (now msg) .number ≡ 0) ⌝ }
-    ensures { λ r. ⌜ r ≡ receiveOf config (now (msg .entry)) ⌝ }
+// What a message says, in one pass over its bytes, its ledger into arrays of zeros.
+pub(crate) fn taken_in(config: Config, msg: &[u8], counts: &mut [u16], cells: &mut [u32]) -> Taken
+    requires { ⌜ (validOf config ≡ true) × (now counts ≡ replicate 16 0) × (now cells ≡ replicate 256 0) ⌝ }
+    ensures { λ r. ⌜ (r ≡ takenOf config (now (msg .entry))) × (now (counts .exit) ≡ scanOf config (now (msg .entry)) .ledger .counts) × (now (cells .exit) ≡ scanOf config (now (msg .entry)) .ledger .cells) ⌝ }
 {
+    let mut received: [u64; 16] = [0; 16];
+    let mut given: [u64; 16] = [0; 16];
     let head = read_head(config, msg);
     let after_head = head.cursor;
     let register = read_register(config, msg, bit(head.map, 4), after_head);
     let after_register = register.cursor;
-    let map = read_number(
+    let sheet = take_sheet(
+        config,
         msg,
         bit(head.map, 5),
-        2,
-        1,
-        most_map(config),
         after_register,
+        counts,
+        cells,
+        &mut received,
+        &mut given,
     );
-    let sheet = take_rows(config, msg, map);
-    let after_sheet = sheet.cursor;
-    let ledger = sheet.ledger;
-    let note = read_number(msg, bit(head.map, 6), 4, 1, MOST_FOUR, after_sheet);
-    Received {
+    let note = read_number(msg, bit(head.map, 6), 4, 1, MOST_FOUR, sheet);
+    let end = finish(config, msg, &received, &given, note);
+    if end.number != 0 {
+        return untaken(refusal(end.number));
+    }
+    Taken {
         verdict: Verdict::Accepted,
         envelope: Envelope {
             kind: head.kind as u8,
@@ -60,9 +68,17 @@ pub(crate) fn received_in(config: Config, msg: &[u8]) -> Received
             round: head.round as u32,
             note: note.x as u32,
         },
-        replica: Replica {
-            ledger,
-            register: kept(msg, register),
-        },
+        register: kept(msg, register),
+    }
+}
+
+// A message that is refused says nothing.
+pub(crate) fn untaken(refusal: Refusal) -> Taken
+    ensures { λ r. ⌜ r ≡ untakenOf refusal ⌝ }
+{
+    Taken {
+        verdict: Verdict::Refused(refusal),
+        envelope: Envelope::blank(),
+        register: Register::start(),
     }
 }

@@ -1,20 +1,17 @@
--- What a call knows of an argument that is a value, a register or a replica: arrays have their lengths, and each number fits its type.
+-- What a call knows of an argument that is a value or a register: arrays have their lengths, and each number fits its type.
 use native.Mathlib.Omega.{arith}
 use mathlib.Core.List.{List}
 use mir.Syntax.{w8}
 use mir.Val.{Val}
 use denote.Laws.{Is}
 use denote.Struct.Declared.{row as rowOf}
-use Rattle.ledger.proofs.Ranges.{field-length, field-fits, ledger-typed}
+use Rattle.ledger.proofs.Ranges.{field-length, field-fits}
 use Rattle.replica.specs.declared.value.Value.{Value}
 use Rattle.replica.specs.declared.register.Register.{Register}
-use Rattle.replica.specs.declared.replica.Replica.{Replica}
 use Rattle.replica.specs.Values.{Typed as TypedValue}
 use Rattle.replica.specs.Registers.{Typed as TypedRegister}
-use Rattle.replica.specs.Replicas.{Typed as TypedReplica}
 use Rattle.replica.proofs.value.Value as ValueStruct
 use Rattle.replica.proofs.register.Register as RegisterStruct
-use Rattle.replica.proofs.replica.Replica as ReplicaStruct
 
 pub value-is-typed : (v : Value) (vs : List Val) → Is (rowOf ValueStruct.the-type) v vs → TypedValue v
 value-is-typed v vs is =
@@ -33,8 +30,3 @@ register-is-typed r vs is =
       desk-fits = omega (arith, f .1 .0 .1);
       value-typed = value-is-typed (r .value) _ (f .1 .1 .0);
     }
-
-pub replica-is-typed : (r : Replica) (vs : List Val) → Is (rowOf ReplicaStruct.the-type) r vs → TypedReplica r
-replica-is-typed r vs is =
-    let f = is .1 .1 in
-    record { ledger-typed = ledger-typed (r .ledger) _ (f .0); register-typed = register-is-typed (r .register) _ (f .1 .0) }

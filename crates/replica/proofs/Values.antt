@@ -3,12 +3,12 @@ use Prim.Native.Nat.{ℕ, min, _≤_, _<_}
 use native.Mathlib.Omega.{arith}
 use mathlib.Core.Path.{_≡_, refl, sym, ap, _∙_}
 use mathlib.Core.Logic.{_↔_, ⊎-elim}
-use mathlib.Core.Bool.{true}
+use mathlib.Core.Bool.{true, false}
 use mathlib.Core.List.{List, []}
 use lib.Dec.{eqb, leb}
 use lib.ListN.{length, getD, take, length-take, List·getD-eq-default}
 use lib.Seq.{getD-take, ext-getD, length-take-le}
-use borrow.Author.Tests.{eq-eqb, eqb-true, lt-ltb, le-ltb, leb-true, le-leb, lt-leb}
+use borrow.Author.Tests.{eq-eqb, ne-eqb, eqb-true, lt-ltb, le-ltb, leb-true, le-leb, lt-leb}
 use Rattle.quorums.specs.Sum.{all}
 use Rattle.quorums.proofs.Tests.{le-or-lt, both}
 use Rattle.quorums.proofs.Sums.{all-each, each-all}
@@ -140,6 +140,20 @@ same-within k n x y h = rw (lt-ltb k n h) (eqb-true x y, eq-eqb x y)
 same-past : (k n x y : ℕ) → n ≤ k → sameByte k n x y ≡ true
 unfolding sameByte
 same-past k n x y h = rw (le-ltb k n h)
+
+-- two bytes of both that are the same, and two that differ
+pub same-alike : (k n x y : ℕ) → k < n → x ≡ y → sameByte k n x y ≡ true
+same-alike k n x y h e = same-within k n x y h .1 e
+
+pub same-not : (k n x y : ℕ) → k < n → (x ≡ y → ⊥) → sameByte k n x y ≡ false
+unfolding sameByte
+same-not k n x y h d = rw (lt-ltb k n h) (ne-eqb x y d)
+
+-- where all bytes of the first are the same, there are no others to compare
+pub same-rest : (a b : Value) (k : ℕ) → min (a .length) 64 ≤ k → all k (sameAt a b) ≡ true → all 64 (sameAt a b) ≡ true
+same-rest a b k h e =
+    each-all 64 (sameAt a b) (λ m l.
+    ⊎-elim (λ (p : k ≤ m). same-past m (a .length) _ _ (omega arith)) (λ (p : m < k). all-each k (sameAt a b) e m p) (le-or-lt k m))
 
 same-told : (a b : Value) → a .length ≤ 64 → same a b ≡ true → bytesOf a ≡ bytesOf b
 unfolding same

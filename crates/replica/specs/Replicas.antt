@@ -1,15 +1,13 @@
 -- A ledger and a register (paper 01: pair), and their join: sheets join, and the higher tag is taken.
+use Prim.Native.Nat.{ℕ}
 use mathlib.Core.Bool.{Bool, false, cond}
 use Rattle.config.specs.Cluster.{validOf}
 use Rattle.config.specs.declared.cluster.Config.{Config}
-use Rattle.config.specs.declared.answer.Refusal.{Refusal}
-use Rattle.config.specs.Refusals.{refusal}
-use Rattle.config.specs.declared.answer.Verdict.{Verdict}
+use Rattle.ledger.specs.declared.join.Compared.{Compared}
 use Rattle.ledger.specs.Ledgers.{freshLedger, Typed as TypedLedger}
 use Rattle.ledger.specs.Checks.{bounded, aboveFloor}
-use Rattle.ledger.specs.Joins.{joins, joined}
+use Rattle.ledger.specs.Joins.{joins, joined, comparedOf as ledgersCompared}
 use Rattle.replica.specs.declared.replica.Replica.{Replica}
-use Rattle.replica.specs.declared.replica.Joined.{Joined}
 use Rattle.replica.specs.Registers.{startRegister, registerFits, higher, agree, Typed as TypedRegister}
 
 -- no transfer, and the start
@@ -29,15 +27,10 @@ joinable c a b =
 unfoldable pub join : Replica → Replica → Replica
 join a b = record { ledger = joined (a .ledger) (b .ledger); register = higher (a .register) (b .register) }
 
-abbrev pub accepted : Replica → Joined
-accepted r = record { verdict = Verdict.Accepted; replica = r }
-
-abbrev pub refused : Refusal → Replica → Joined
-refused k r = record { verdict = Verdict.Refused k; replica = r }
-
--- What the call answers: 1 for the cluster, 6 where they do not join. A refusal leaves the first as it was.
-unfoldable pub joinAnswer : Config → Replica → Replica → Joined
-joinAnswer c a b = cond (validOf c) (cond (joinable c a b) (accepted (join a b)) (refused (refusal 6) a)) (refused (refusal 1) a)
+-- How two replicas of a cluster of n servers compare: by their ledgers, and they do not join where equal tags have other values.
+unfoldable pub comparedOf : ℕ → Replica → Replica → Compared
+comparedOf n a b =
+    cond (agree (a .register) (b .register)) (ledgersCompared n (a .ledger) (b .ledger)) (record { joins = false; lacks = false; ahead = false })
 
 -- A replica that a call can have.
 pub record Typed (r : Replica) : Type 0 where

@@ -5,9 +5,8 @@ mod replica;
 mod value;
 
 pub use register::Register;
-pub use replica::Joined;
 pub use replica::Replica;
+pub use replica::compare_lent;
 pub use replica::fits_lent;
-pub use replica::join_lent;
 pub use value::MOST_VALUE;
 pub use value::Value;

@@ -1,7 +1,7 @@
 // The value of a register: up to 64 bytes.
 ghost use mathlib.Core.Path.{_≡_};
 ghost use Prim.Native.Nat.{_≤_, min};
-ghost use Rattle.replica.specs.Values.{valueFits, valueOf, emptyValue, trimmed as trimmedOf, sameByte, same as sameOf};
+ghost use Rattle.replica.specs.Values.{valueFits, valueOf, emptyValue, trimmed as trimmedOf, same as sameOf};
 
 // The most bytes that a value has.
 pub const MOST_VALUE: u16 = 64;
@@ -69,25 +69,16 @@ impl Value {
         if self.length != other.length {
             return false;
         }
+        let end = short(self.length as usize);
         let mut k: usize = 0;
-        while k < 64 {
-            if !same_byte(k, self.length, self.bytes[k], other.bytes[k]) {
+        while k < end {
+            if self.bytes[k] != other.bytes[k] {
                 return false;
             }
             k += 1;
         }
         true
     }
-}
-
-// Whether two values of one length have the same byte at k, or none.
-fn same_byte(k: usize, length: u16, x: u8, y: u8) -> bool
-    ensures { λ r. ⌜ r ≡ sameByte k length x y ⌝ }
-{
-    if length as usize <= k {
-        return true;
-    }
-    x == y
 }
 
 // The length that a value of so many bytes has: 65 where they are too many.

@@ -1,6 +1,5 @@
--- Laws: the record, transfers and the published rule, shares, serve, and the replies that it writes. `Ranges` is for what a call knows of a record, `Told` and
--- `Outcomes` for what answers tell and what serve can come to.
-pub mod Ranges
+-- Laws: the record, transfers and the published rule, shares, serve, and the replies that it writes. `Told` and `Outcomes` are
+-- for what answers tell and what serve can come to, `Servings` for serve on the parts of a record.
 pub mod Servers
 pub mod Transfers
 pub mod Published
@@ -9,3 +8,4 @@ pub mod Outcomes
 pub mod Shares
 pub mod Serves
 pub mod Replies
+pub mod Servings

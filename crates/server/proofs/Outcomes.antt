@@ -16,7 +16,7 @@ use Rattle.message.specs.declared.envelope.Envelope.{Envelope}
 use Rattle.message.specs.declared.answer.Received.{Received}
 use Rattle.replica.specs.declared.replica.Replica.{Replica}
 use Rattle.server.specs.declared.record.Server.{Server}
-use Rattle.server.specs.Servers.{fits}
+use Rattle.server.specs.Servers.{fits, holding}
 use Rattle.server.specs.Serves.{Outcome, refuse, stray, clashes, joinedServer, replyMessage, replyOf, serveFields, serveOf}
 
 -- what is known of a message that is joined
@@ -107,3 +107,8 @@ module _ (P : Outcome → Type 0) (s : Server) (msg out : List ℕ) (at : ℕ) w
         replies = λ j k q. joins a (j .clear) _ _;
         narrow = λ j k q. left (refusal 13);
       })
+
+-- serve changes nothing of a record but what it holds
+pub serve-kept : (s : Server) (msg out : List ℕ) (at : ℕ) → serveOf s msg out at .server ≡ holding s (serveOf s msg out at .server .replica)
+serve-kept s msg out at =
+    serve-either (λ o. o .server ≡ holding s (o .server .replica)) s msg out at (λ k. refl) (λ a c n b. refl)

@@ -32,6 +32,11 @@ pub told-fits : (s : Server) → Fits s → fits s ≡ true
 unfolding fits
 told-fits s t = simp (t .server-in, t .replica-fits)
 
+-- of a server's number it is that of the replica
+pub fits-replica : (s : Server) → serverOf (s .config) (s .number) ≡ true → fits s ≡ fitsReplica (s .config) (s .replica)
+unfolding fits
+fits-replica s o = rw o refl
+
 -- ---- a server that is opened
 
 -- what `open` answers

@@ -3,7 +3,7 @@
 -- carries.
 use Prim.Native.Nat.{ℕ}
 use native.Mathlib.Omega.{arith}
-use mathlib.Core.Path.{_≡_, refl, sym, ap, ap₂, _∙_}
+use mathlib.Core.Path.{_≡_, refl, sym, _∙_}
 use mathlib.Core.Bool.{Bool, true, false, cond}
 use mathlib.Core.List.{List}
 use borrow.Author.Tests.{lt-ltb, eq-eqb, ne-eqb}
@@ -20,16 +20,16 @@ use Rattle.message.specs.declared.envelope.Envelope.{Envelope}
 use Rattle.message.specs.declared.answer.Received.{Received}
 use Rattle.replica.specs.declared.replica.Replica.{Replica}
 use Rattle.replica.specs.Replicas.{fits as fitsReplica, join, Typed as TypedReplica}
-use Rattle.message.specs.Answers.{Written, place, writeOf, receiveOf}
+use Rattle.message.specs.Answers.{receiveOf}
 use Rattle.replica.proofs.Replicas.{join-typed, join-fits, Grows, grows-left, grows-right}
 use Rattle.message.proofs.Lawful.{lawful-told, told-lawful}
-use Rattle.message.proofs.Envelopes.{write-placed, received-back, receive-told}
-use Rattle.message.proofs.Placed.{place-room, place-value, place-narrow}
+use Rattle.message.proofs.Envelopes.{received-back, receive-told}
+use Rattle.message.proofs.Placed.{place-room}
 use Rattle.server.specs.declared.record.Server.{Server}
-use Rattle.server.specs.Servers.{fits, holding, Typed}
-use Rattle.server.specs.Serves.{Outcome, refuse, stray, clashes, joinedServer, replyEnvelope, replyMessage, serveFields, serveOf}
+use Rattle.server.specs.Servers.{fits, Typed}
+use Rattle.server.specs.Serves.{refuse, stray, clashes, joinedServer, replyEnvelope, replyMessage, serveFields, serveOf}
 use Rattle.server.proofs.Servers.{fits-told, told-fits}
-use Rattle.server.proofs.Told.{clear-joinable, fields-reply, reply-written, reply-narrow}
+use Rattle.server.proofs.Told.{clear-joinable}
 use Rattle.server.proofs.Outcomes.{reply, shared, serve-cases, serve-either}
 
 -- ---- the server after joining
@@ -96,50 +96,6 @@ module _ (s : Server) (e : Envelope) (r : Replica) (t : Typed s) (f : fits s ≡
       received-back (s .config) (replyEnvelope s e) (join (s .replica) r) (reply-typed s e f (p .envelope-typed)) held-typed
       (reply-lawful s e f (p .envelope-lawful) (ne-eqb (e .kind) 3 (λ d. omega arith)))
       (held-fits c)
-
-  module _ (out : List ℕ) (at : ℕ) (stays : stray s e ≡ false) (c : clashes s r ≡ false) (k : eqb (e .kind) 3 ≡ false) where
-    -- what the writer gives is the reply that is placed
-    sent : writeOf (s .config) (replyEnvelope s e) (join (s .replica) r) out at ≡ place (replyMessage (joinedServer s r) e) out at
-    sent =
-        write-placed (s .config) (replyEnvelope s e) (join (s .replica) r) (reply-typed s e f (p .envelope-typed)) held-typed
-        (reply-lawful s e f (p .envelope-lawful) k) (held-fits c) out at
-
-    -- the writer's answer n, and the buffer b after it
-    module _ (g : Envelope) (after : Replica) (n : Number) (b : List ℕ)
-        (q : g ≡ replyEnvelope s e)
-        (a : after ≡ join (s .replica) r)
-        (answers : n ≡ writeOf (s .config) g after out at .answer)
-        (leaves : b ≡ writeOf (s .config) g after out at .out) where
-      written-is : writeOf (s .config) g after out at ≡ place (replyMessage (joinedServer s r) e) out at
-      written-is = ap₂ (λ h x. writeOf (s .config) h x out at) q a ∙ sent
-
-      answer-is : n ≡ place (replyMessage (joinedServer s r) e) out at .answer
-      answer-is = answers ∙ ap (λ (w : Written). w .answer) written-is
-
-      buffer-is : b ≡ place (replyMessage (joinedServer s r) e) out at .out
-      buffer-is = leaves ∙ ap (λ (w : Written). w .out) written-is
-
-      -- a reply that is written is what serve comes to
-      pub reply-done : (x : ℕ) → n ≡ Number.Value x
-          → (Number.Value x ≡ serveFields s e r out at .answer) × (holding s after ≡ serveFields s e r out at .server) × (b ≡ serveFields s e r out at .out)
-      reply-done x d =
-          let fitting = place-value (replyMessage (joinedServer s r) e) out at x (sym answer-is ∙ d) in
-          let written = fields-reply s e r out at stays c k ∙ reply-written s (joinedServer s r) (replyMessage (joinedServer s r) e) out at fitting in (
-            sym d ∙ answer-is ∙ sym (ap (λ (o : Outcome). o .answer) written),
-            ap (holding s) a ∙ sym (ap (λ (o : Outcome). o .server) written),
-            buffer-is ∙ sym (ap (λ (o : Outcome). o .out) written),
-          )
-
-      -- and one that has no room leaves all as it was
-      pub reply-left : (x : Refusal) → n ≡ Number.Refused x
-          → (Number.Refused x ≡ serveFields s e r out at .answer) × (s ≡ serveFields s e r out at .server) × (b ≡ serveFields s e r out at .out)
-      reply-left x d =
-          let tight = place-narrow (replyMessage (joinedServer s r) e) out at x (sym answer-is ∙ d) in
-          let left = fields-reply s e r out at stays c k ∙ reply-narrow s (joinedServer s r) (replyMessage (joinedServer s r) e) out at (tight .0) in (
-            tight .1 ∙ sym (ap (λ (o : Outcome). o .answer) left),
-            sym (ap (λ (o : Outcome). o .server) left),
-            buffer-is ∙ tight .2 ∙ sym (ap (λ (o : Outcome). o .out) left),
-          )
 
 -- ---- what serve keeps
 

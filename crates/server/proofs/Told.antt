@@ -1,25 +1,19 @@
--- What the answers of the parts of a call tell: of a join, and of serve at each of its tests.
+-- What serve comes to at each of its tests.
 use Prim.Native.Nat.{ℕ}
-use mathlib.Core.Path.{_≡_, refl, sym, ap, _∙_}
+use mathlib.Core.Path.{_≡_, refl, sym}
 use mathlib.Core.Bool.{Bool, true, false, cond, not, false≢true}
 use mathlib.Core.List.{List}
 use lib.Dec.{eqb, ltb}
 use lib.ListN.{length}
 use Rattle.config.specs.Refusals.{refusal}
-use Rattle.config.specs.declared.answer.Refusal.{Refusal}
-use Rattle.config.specs.declared.answer.Verdict.{Verdict}
-use Rattle.config.specs.declared.answer.Verdict.the-variants.{Accepted, Refused}
 use Rattle.config.specs.declared.answer.Number.{Number}
 use Rattle.ledger.specs.Ledgers.{countOf}
-use Rattle.message.specs.Answers.{fits as room, place, receiveOf}
+use Rattle.message.specs.Answers.{fits as room, place}
 use Rattle.message.specs.declared.envelope.Envelope.{Envelope}
-use Rattle.message.specs.declared.answer.Received.{Received}
 use Rattle.replica.specs.declared.replica.Replica.{Replica}
 use Rattle.replica.specs.Replicas.{joinable}
 use Rattle.server.specs.declared.record.Server.{Server}
-use Rattle.server.specs.declared.serve.Served.{Served}
-use Rattle.server.specs.Servers.{fits}
-use Rattle.server.specs.Serves.{Outcome, refuse, refused, stray, clashes, joinedServer, replyMessage, replyOf, serveFields, serveOf}
+use Rattle.server.specs.Serves.{refuse, stray, clashes, joinedServer, replyMessage, replyOf, serveFields}
 
 -- ---- a join
 
@@ -45,19 +39,6 @@ clear-joinable s r e =
     by-tests true j d = absurd (false≢true (sym d))
     by-tests false true d = refl
     by-tests false false d = absurd (false≢true (sym d))
-
--- ---- a refusal
-
--- what `unserved` gives is the record's part of a refusal
-pub refuse-told : (x : Served) (o : Outcome) (k : Refusal) (s : Server) (out : List ℕ)
-    → x ≡ refused k s
-    → o ≡ refuse k s out
-    → (x .answer ≡ o .answer) × (x .server ≡ o .server) × (out ≡ o .out)
-refuse-told x o k s out d e = (
-  ap (λ (y : Served). y .answer) d ∙ sym (ap (λ (y : Outcome). y .answer) e),
-  ap (λ (y : Served). y .server) d ∙ sym (ap (λ (y : Outcome). y .server) e),
-  sym (ap (λ (y : Outcome). y .out) e),
-)
 
 -- ---- serve of the fields of a message
 
@@ -101,20 +82,3 @@ reply-written s t m out at b = rw b refl
 pub reply-narrow : (s t : Server) (m out : List ℕ) (at : ℕ) → room (length out) at (length m) ≡ false → replyOf s t m out at ≡ refuse (refusal 13) s out
 unfolding replyOf
 reply-narrow s t m out at b = rw b refl
-
--- ---- serve of a message
-
-module _ (s : Server) (msg out : List ℕ) (at : ℕ) where
-  pub serve-unfit : fits s ≡ false → serveOf s msg out at ≡ refuse (refusal 1) s out
-  unfolding serveOf
-  serve-unfit f = rw f refl
-
-  -- x is what the message says
-  module _ (x : Received) (f : fits s ≡ true) (d : x ≡ receiveOf (s .config) msg) where
-    pub serve-taken : x .verdict ≡ Verdict.Accepted → serveOf s msg out at ≡ serveFields s (x .envelope) (x .replica) out at
-    unfolding serveOf
-    serve-taken v = rw (← d, f, v) refl
-
-    pub serve-untaken : (k : Refusal) → x .verdict ≡ Verdict.Refused k → serveOf s msg out at ≡ refuse k s out
-    unfolding serveOf
-    serve-untaken k v = rw (← d, f, v) refl

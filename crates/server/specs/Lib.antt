@@ -4,3 +4,4 @@ pub mod Transfers
 pub mod Shares
 pub mod Serves
 pub mod Parts
+pub mod Servings

@@ -15,7 +15,6 @@ use Rattle.replica.specs.declared.replica.Replica.{Replica}
 use Rattle.replica.specs.Replicas.{joinable, join}
 use Rattle.message.specs.Envelopes.{request, reply, share, messageOf}
 use Rattle.server.specs.declared.record.Server.{Server}
-use Rattle.server.specs.declared.serve.Served.{Served}
 use Rattle.server.specs.Servers.{fits, holding}
 
 -- what serve comes to: its answer, the record, and the buffer
@@ -28,25 +27,30 @@ pub record Outcome : Type 0 where
 abbrev pub refuse : Refusal → Server → List ℕ → Outcome
 refuse k s out = record { answer = Number.Refused k; server = s; out = out }
 
--- the record's part of it
-abbrev pub refused : Refusal → Server → Served
-refused k s = record { answer = Number.Refused k; server = s }
+-- 7: a reply, or a request for another server than i
+abbrev pub strayFrom : ℕ → Envelope → Bool
+strayFrom i e = cond (eqb (e .kind) share) false (cond (eqb (e .kind) request) (not (eqb (e .server) i)) true)
 
--- 7: a reply, or a request for another server
 unfoldable pub stray : Server → Envelope → Bool
-stray s e = cond (eqb (e .kind) share) false (cond (eqb (e .kind) request) (not (eqb (e .server) (s .number))) true)
+stray s e = strayFrom (s .number) e
 
 -- 6: a row of the server's own with a count above its own, or pairs that don't join
+abbrev pub knowsMore : Server → Replica → Bool
+knowsMore s r = ltb (countOf (s .replica .ledger) (s .number)) (countOf (r .ledger) (s .number))
+
 unfoldable pub clashes : Server → Replica → Bool
-clashes s r = cond (ltb (countOf (s .replica .ledger) (s .number)) (countOf (r .ledger) (s .number))) true (not (joinable (s .config) (s .replica) r))
+clashes s r = cond (knowsMore s r) true (not (joinable (s .config) (s .replica) r))
 
 -- the server after joining
 abbrev pub joinedServer : Server → Replica → Server
 joinedServer s r = holding s (join (s .replica) r)
 
--- the reply has the request's desk, round and note
+-- the reply of server i has the request's desk, round and note
+abbrev pub replyBy : ℕ → Envelope → Envelope
+replyBy i e = record { kind = reply; server = i; desk = e .desk; round = e .round; note = e .note }
+
 abbrev pub replyEnvelope : Server → Envelope → Envelope
-replyEnvelope s e = record { kind = reply; server = s .number; desk = e .desk; round = e .round; note = e .note }
+replyEnvelope s e = replyBy (s .number) e
 
 -- its bytes, and what it carries: the pair of server t
 abbrev pub replyMessage : Server → Envelope → List ℕ

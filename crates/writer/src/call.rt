@@ -39,8 +39,8 @@ pub fn write(
     )
 }
 
-// The same of a replica whose ledger is lent as its counts and cells, wherever it lies: it is not copied.
-pub fn write_lent<'a>(
+// The same of a replica whose ledger is lent as its counts and cells: it is not copied.
+fn write_lent<'a>(
     config: Config,
     envelope: Envelope,
     counts: &'a [u16; 16],
@@ -76,11 +76,11 @@ fn write_judged<'a>(
 }
 
 // What a party sends of what it holds, lent in the same way: a message that the reader would refuse, by whatever number, is 1.
-pub fn send_lent<'a>(
+pub fn send_lent(
     config: Config,
     envelope: Envelope,
-    counts: &'a [u16; 16],
-    cells: &'a [u32; 256],
+    counts: &[u16; 16],
+    cells: &[u32; 256],
     register: Register,
     out: &mut [u8],
     at: usize,
@@ -95,11 +95,11 @@ pub fn send_lent<'a>(
 }
 
 // Writes a message that the reader takes, or refuses it where it does not fit (13).
-fn put_message<'a>(
+fn put_message(
     config: Config,
     envelope: Envelope,
-    counts: &'a [u16],
-    cells: &'a [u32],
+    counts: &[u16],
+    cells: &[u32],
     register: Register,
     out: &mut [u8],
     at: usize,

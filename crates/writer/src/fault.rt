@@ -30,11 +30,11 @@ pub(crate) fn kind_fits(kind: u8, desk: u16, round: u32, note: u32) -> bool
 }
 
 // The reader's verdict.
-pub(crate) fn fault<'a>(
+pub(crate) fn fault(
     config: Config,
     envelope: Envelope,
-    counts: &'a [u16; 16],
-    cells: &'a [u32; 256],
+    counts: &[u16; 16],
+    cells: &[u32; 256],
     register: Register,
 ) -> Verdict
     ensures { λ r. ⌜ r ≡ verdictOf (faultOf config envelope (replicaOf (now (counts .entry)) (now (cells .entry)) register)) ⌝ }

@@ -8,4 +8,3 @@ mod whole;
 
 pub use call::send_lent;
 pub use call::write;
-pub use call::write_lent;

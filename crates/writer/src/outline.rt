@@ -56,11 +56,11 @@ pub(crate) fn field_map(envelope: Envelope, register: Register, rows: u64) -> u6
 }
 
 // Whether there is less room than a message needs. Its size is found only where the room is less than the longest message needs.
-pub(crate) fn narrow<'a>(
+pub(crate) fn narrow(
     config: Config,
     envelope: Envelope,
-    counts: &'a [u16],
-    cells: &'a [u32],
+    counts: &[u16],
+    cells: &[u32],
     register: Register,
     room: usize,
 ) -> bool
@@ -76,7 +76,7 @@ pub(crate) fn narrow<'a>(
 }
 
 // How many bytes the rows of a ledger take in which every row whose count is 0 is empty.
-fn rows_bytes<'a>(counts: &'a [u16], cells: &'a [u32]) -> u64
+fn rows_bytes(counts: &[u16], cells: &[u32]) -> u64
     requires { ⌜ (length (now counts) ≡ 16) × (length (now cells) ≡ 256) × Counted (now counts) (now cells) ⌝ }
     ensures { λ r. ⌜ (r ≡ length (rowsOf (λ i. getD (now (counts .entry)) i 0) (λ i j. getD (now (cells .entry)) (i * 16 + j) 0))) × (r ≤ 1088) ⌝ }
 {

@@ -18,13 +18,13 @@ ghost use Rattle.writer.specs.Outlines.{Counted, CountsBelow};
 
 // Counts and cells are lent beside the register: taken out of a replica here, they would be copied. The rows from n on are empty, as is every
 // row whose count is 0.
-pub(crate) fn fill<'a>(
+pub(crate) fn fill(
     out: &mut [u8],
     config: Config,
     envelope: Envelope,
     register: Register,
-    counts: &'a [u16],
-    cells: &'a [u32],
+    counts: &[u16],
+    cells: &[u32],
 ) -> usize
     requires { ⌜ (length (now counts) ≡ 16) × (length (now cells) ≡ 256) × (register .value .length ≤ 64) × Counted (now counts) (now cells) × (config .n ≤ 16) × CountsBelow (config .n) (now counts) × (length (messageOf config envelope (replicaOf (now counts) (now cells) register)) ≤ length (now out)) ⌝ }
     ensures { λ r. ⌜ (now (out .exit) ≡ over (messageOf config envelope (replicaOf (now (counts .entry)) (now (cells .entry)) register)) (now (out .entry))) × (r ≡ length (messageOf config envelope (replicaOf (now (counts .entry)) (now (cells .entry)) register))) ⌝ }

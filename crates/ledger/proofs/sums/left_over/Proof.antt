@@ -21,11 +21,26 @@ abbrev μ-loop : tie.MeasureT-loop
 loop-holds : tie.Need-loop-holds Inv-loop μ-loop
 loop-holds c = (omega arith, omega arith, beyond-start _ _, omega arith)
 
-mul-line : tie.Need-mul-line Inv-loop μ-loop
-mul-line c = search needs
+mul-a : tie.Need-mul-a Inv-loop μ-loop
+mul-a c = search needs
 
-line-requires : tie.Need-line-requires Inv-loop μ-loop
-line-requires c κs = search needs
+add-e : tie.Need-add-e Inv-loop μ-loop
+add-e c = search needs
+
+mul-filled : tie.Need-mul-filled Inv-loop μ-loop
+mul-filled c = search needs
+
+sub-filled : tie.Need-sub-filled Inv-loop μ-loop
+sub-filled c = search needs
+
+part-filled-start : tie.Need-part-filled-start Inv-loop μ-loop
+part-filled-start c = search needs
+
+part-filled-end : tie.Need-part-filled-end Inv-loop μ-loop
+part-filled-end c = search needs
+
+filled-requires : tie.Need-filled-requires Inv-loop μ-loop
+filled-requires c κs = search needs
 
 mul-rest : tie.Need-mul-rest Inv-loop μ-loop
 mul-rest c = search needs
@@ -38,18 +53,18 @@ shared-slice-read-rest c = search needs
 abbrev entry : tie.At-loop Inv-loop μ-loop → tie.Start Inv-loop μ-loop
 entry c = c .before .before .before .before
 
-abbrev turn : tie.After-line Inv-loop μ-loop → tie.At-loop Inv-loop μ-loop
-turn c = c .before .before
+abbrev turn : tie.After-filled Inv-loop μ-loop → tie.At-loop Inv-loop μ-loop
+turn c = c .before .before .before
 
-abbrev first : tie.After-wide16 Inv-loop μ-loop → tie.After-line Inv-loop μ-loop
+abbrev first : tie.After-wide16 Inv-loop μ-loop → tie.After-filled Inv-loop μ-loop
 first c = c .before .before .before
 
 -- what the server from n on received is small
-got-small : (c : tie.After-line Inv-loop μ-loop) → getD (entry (turn c) .args .received .now) (turn c .loop .i) 0 ≤ 68719476720
+got-small : (c : tie.After-filled Inv-loop μ-loop) → getD (entry (turn c) .args .received .now) (turn c .loop .i) 0 ≤ 68719476720
 got-small c = entry (turn c) .pre .4 .small (turn c .loop .i)
 
 add-rest : tie.Need-add-rest Inv-loop μ-loop
-add-rest c = omega (arith, c .before .line .ensures .1, got-small (c .before))
+add-rest c = omega (arith, c .before .filled .ensures .1, got-small (c .before))
 
 mul-wide16 : tie.Need-mul-wide16 Inv-loop μ-loop
 mul-wide16 c = search needs
@@ -61,11 +76,11 @@ wide16-requires : tie.Need-wide16-requires Inv-loop μ-loop
 wide16-requires c κs = search needs
 
 add-rest-2 : tie.Need-add-rest-2 Inv-loop μ-loop
-add-rest-2 c = omega (arith, first c .line .ensures .1, got-small (first c), c .wide16 .ensures .1)
+add-rest-2 c = omega (arith, first c .filled .ensures .1, got-small (first c), c .wide16 .ensures .1)
 
 add-rest-3 : tie.Need-add-rest-3 Inv-loop μ-loop
 add-rest-3 c =
-    omega (arith, first c .line .ensures .1, got-small (first c), c .wide16 .ensures .1, turn (first c) .loop .inv .3, turn (first c) .loop .inv .1)
+    omega (arith, first c .filled .ensures .1, got-small (first c), c .wide16 .ensures .1, turn (first c) .loop .inv .3, turn (first c) .loop .inv .1)
 
 add-i : tie.Need-add-i Inv-loop μ-loop
 add-i c = search needs
@@ -78,12 +93,12 @@ loop-again c =
     let l = turn (first c) .loop in
     let s = entry (turn (first c)) in
     let got : getD (s .args .received .now) (l .i) 0 ≡ receivedFrom (s .args .n) (ledgerOf (s .args .counts .now) (s .args .cells .now)) (l .i) =
-    ap (λ xs. getD xs (l .i) 0) (s .pre .3) ∙ table-at 16 _ (l .i) (first c .before .loop-test .taken) in (
+    ap (λ xs. getD xs (l .i) 0) (s .pre .3) ∙ table-at 16 _ (l .i) (first c .before .before .loop-test .taken) in (
       omega arith,
       omega arith,
-      beyond-next (s .args .n) (ledgerOf (s .args .counts .now) (s .args .cells .now)) (l .i) (l .rest) _ _ _ (l .inv .0) (l .inv .2) (first c .line .ensures .0) got
+      beyond-next (s .args .n) (ledgerOf (s .args .counts .now) (s .args .cells .now)) (l .i) (l .rest) _ _ _ (l .inv .0) (l .inv .2) (first c .filled .ensures .0) got
           (c .wide16 .ensures .0),
-      omega (arith, first c .line .ensures .1, got-small (first c), c .wide16 .ensures .1, l .inv .3),
+      omega (arith, first c .filled .ensures .1, got-small (first c), c .wide16 .ensures .1, l .inv .3),
     )
 
 returns : tie.Need-returns Inv-loop μ-loop
@@ -100,8 +115,13 @@ left-over-spec =
     Inv-loop
     μ-loop
     loop-holds
-    mul-line
-    line-requires
+    mul-a
+    add-e
+    mul-filled
+    sub-filled
+    part-filled-start
+    part-filled-end
+    filled-requires
     mul-rest
     shared-slice-read-rest
     add-rest

@@ -1,67 +1,94 @@
--- `take_cells` meets its contract: after j cells the place and the values are those of the first j, and where nothing is left of the map no other stands.
-use Prim.Native.Nat.{_+_, _/_, _%_, _^_, _≤_, _<_}
-use native.Mathlib.Nat.{div-one}
+-- `take_cells` meets its contract: after j cells the cursor, the total, the sums and the row are those of the first j, and the others read nothing where
+-- nothing is left of the map or there is a fault.
+use Prim.Native.Nat.{_<_}
 use native.Mathlib.Omega.{arith}
-use mathlib.Core.Path.{_≡_, refl, sym, ap, _∙_}
-use mathlib.Core.Logic.{⊎-elim}
+use mathlib.Core.Path.{sym, ap, _∙_}
 use borrow.Author.Needs.{needs}
 use lib.ListN.{length}
-use Rattle.message.specs.Cursors.{numberAt}
-use Rattle.message.specs.Scans.{cellsAfter, cellRead}
-use Rattle.reader.specs.Steps.{place}
-use Rattle.ledger.proofs.Tallies.{Tallied, tally-none, tally-next, tally-same, zeros-at, tally-zeros}
-use Rattle.reader.proofs.Rests.{rest-bit, rest-next, rest-inside, cells-end, cell-beyond}
-use Rattle.reader.proofs.Placed.{cell-passed, cell-skipped}
+use Rattle.message.specs.Scans.{cellRead}
+use Rattle.ledger.proofs.Tallies.{Tallied, tally-none, tally-next, tally-zeros, zeros-at}
+use Rattle.reader.proofs.Turns.{CellsSoFar, cells-start, cells-inside, cell-is, cells-turn, cells-clean, cells-stop, cells-none, cells-done}
 use Rattle.reader.proofs.take.take_cells.Statement.{statement}
 use Rattle.reader.proofs.take.take_cells.Tie as tie
 
 abbrev Inv-loop : tie.InvT-loop
-Inv-loop msg map at₀ out₀ _ rest₀ j₀ out at rest j =
-    (j ≤ 16)
-    × (rest ≡ map / 2 ^ j)
-    × (at ≡ cellsAfter msg map (place at₀) j .at)
-    × (at ≤ length msg)
-    × Tallied (cellRead msg map (place at₀)) out₀ out j
+Inv-loop msg map row₀ received₀ cursor₀ total₀ rest₀ j₀ row received cursor total rest j =
+    CellsSoFar msg map cursor₀ received₀ received cursor total rest j × Tallied (cellRead msg map cursor₀) row₀ row j
 
 abbrev μ-loop : tie.MeasureT-loop
-μ-loop msg map at₀ out₀ _ rest₀ j₀ out at rest j = rest
+μ-loop msg map row₀ received₀ cursor₀ total₀ rest₀ j₀ row received cursor total rest j = rest
 
 loop-holds : tie.Need-loop-holds Inv-loop μ-loop
-unfolding cellsAfter
 loop-holds c =
-    let p = c .before .before .pre in
-    (omega arith, sym (div-one _), refl, p .2, tally-none _ _ (ap length (p .3)))
+    let p = c .before .before .before .pre in
+    (cells-start _ _ _ _ (p .0) (p .3 .size), tally-none _ _ (ap length (p .2)))
 
 -- where something is left of the map, j is below 16
 inside : (c : tie.In-loop Inv-loop μ-loop) → c .before .loop .j < 16
-inside c =
-    let l = c .before .loop in
-    rest-inside _ (l .j) (l .rest) (c .before .before .before .before .pre .1) (l .inv .1) (c .loop-test .taken)
+inside c = cells-inside (c .before .loop .inv .0) (c .before .before .before .before .before .pre .1) (c .loop-test .taken)
 
--- a cell that stands
-cell : (c : tie.Then1 Inv-loop μ-loop) →
-    let a = c .before .before .before .before .before .args in
-    let l = c .before .before .loop in
-    (l .at + 4 ≤ length (a .msg .now)) × (l .at + 4 ≡ cellsAfter (a .msg .now) (a .map) (place (a .at)) (l .j + 1) .at) × (numberAt (a .msg .now) (l .at) 4 ≡ cellRead (a .msg .now) (a .map) (place (a .at)) (l .j))
-cell c =
-    let s = c .before .before .before .before .before in
-    let l = c .before .before .loop in
-    cell-passed _ _ _ (l .j) (s .pre .0) (l .inv .2) (inside (c .before)) (sym (rest-bit _ (l .j) (l .inv .1)) ∙ c .if1 .taken)
+read-number-requires : tie.Need-read-number-requires Inv-loop μ-loop
+read-number-requires c κs = search needs
 
-number-at-requires : tie.Need-number-at-requires Inv-loop μ-loop
-number-at-requires c κs = (cell c .0, omega arith)
+add-settle : tie.Need-add-settle Inv-loop μ-loop
+add-settle c = search needs
 
-cast-out : tie.Need-cast-out Inv-loop μ-loop
-cast-out c = search needs
+settle-requires : tie.Need-settle-requires Inv-loop μ-loop
+settle-requires c κs = search needs
 
-mul-out : tie.Need-mul-out Inv-loop μ-loop
-mul-out c = search needs
+same-length : tie.Need-same-length Inv-loop μ-loop
+same-length c =
+    let l = c .before .before .before .before .before in
+    l .loop .inv .1 .size ∙ sym (ap length (l .before .before .before .before .pre .2))
 
-slice-write-out : tie.Need-slice-write-out Inv-loop μ-loop
-slice-write-out c = omega (arith, inside (c .before .before), c .before .before .before .loop .inv .4 .size)
+same-length-2 : tie.Need-same-length-2 Inv-loop μ-loop
+same-length-2 c = search needs
 
-add-at : tie.Need-add-at Inv-loop μ-loop
-add-at c = search needs
+returns : tie.Need-returns Inv-loop μ-loop
+returns c =
+    let r = c .before .before .before in
+    let l = r .before .before .loop in
+    let fault = c .before .if1 .taken in
+    let all = cells-stop (l .inv .0) (r .read-number .ensures) fault (inside (r .before)) (c .settle .ensures) in
+    let row = tally-zeros _ _ _ (l .j) (r .before .before .before .before .before .before .pre .2) (l .inv .1) (cells-clean (l .inv .0) (r .read-number .ensures) fault) in
+    (all .0, all .1, row, all .2, all .3)
+
+cast-row : tie.Need-cast-row Inv-loop μ-loop
+cast-row c = search needs
+
+mul-row : tie.Need-mul-row Inv-loop μ-loop
+mul-row c = search needs
+
+slice-write-row : tie.Need-slice-write-row Inv-loop μ-loop
+slice-write-row c =
+    let l = c .before .before .before .before in
+    omega (arith, inside l, l .before .loop .inv .1 .size)
+
+mul-received : tie.Need-mul-received Inv-loop μ-loop
+mul-received c = search needs
+
+slice-read-received : tie.Need-slice-read-received Inv-loop μ-loop
+slice-read-received c =
+    let l = c .before .before .before .before .before in
+    omega (arith, inside l, l .before .loop .inv .0 .added .size)
+
+add-received : tie.Need-add-received Inv-loop μ-loop
+add-received c =
+    let r = c .before .before .before .before .before in
+    let l = r .before .before .loop in
+    let room = r .before .before .before .before .before .before .pre .3 .small (l .j) in
+    omega (arith, l .inv .0 .added .left (l .j) (omega arith), room, r .read-number .ensures .2)
+
+mul-received-2 : tie.Need-mul-received-2 Inv-loop μ-loop
+mul-received-2 c = search needs
+
+slice-write-received : tie.Need-slice-write-received Inv-loop μ-loop
+slice-write-received c =
+    let l = c .before .before .before .before .before .before in
+    omega (arith, inside l, l .before .loop .inv .0 .added .size)
+
+add-total : tie.Need-add-total Inv-loop μ-loop
+add-total c = search needs
 
 add-j : tie.Need-add-j Inv-loop μ-loop
 add-j c = search needs
@@ -69,39 +96,32 @@ add-j c = search needs
 loop-less : tie.Need-loop-less Inv-loop μ-loop
 loop-less c = search needs
 
--- a turn, whether the cell stands or not
-turn : (c : tie.Joined1 Inv-loop μ-loop) →
-    let a = c .before .before .before .before .before .args in
-    let l = c .before .before .loop in
-    (c .if1 .at ≡ cellsAfter (a .msg .now) (a .map) (place (a .at)) (l .j + 1) .at) × (c .if1 .at ≤ length (a .msg .now)) × Tallied (cellRead (a .msg .now) (a .map) (place (a .at))) (a .out .now) (c .if1 .out) (l .j + 1)
-turn c =
-    let s = c .before .before .before .before .before in
-    let l = c .before .before .loop in
-    ⊎-elim
-    (λ w.
-    let found = cell (record { before = c .before; if1 = w .0 }) in
-    (w .3 ∙ found .1, omega (arith, w .3, found .0), rw (w .2) (tally-next _ _ (l .out) (l .j) _ (inside (c .before)) (l .inv .4) (omega (arith, w .1 .ensures .0, found .2, zeros-at (s .pre .3) (l .j) (inside (c .before)))))))
-    (λ w.
-    let none : l .rest % 2 ≡ 0 = omega (arith, w .0 .left) in
-    let found = cell-skipped _ _ _ (l .j) (l .inv .2) (sym (rest-bit _ (l .j) (l .inv .1)) ∙ none) in
-    (w .2 ∙ found .0, omega (arith, w .2, l .inv .3), rw (w .1) (tally-same _ _ (l .out) (l .j) (l .inv .4) (found .1))))
-    (c .if1 .came)
-
 loop-again : tie.Need-loop-again Inv-loop μ-loop
 loop-again c =
+    let r = c .before .before .before .before .before .before in
+    let l = r .before .before .loop in
+    let i = inside (r .before) in
+    let blank = zeros-at (r .before .before .before .before .before .before .pre .2) (l .j) i in (
+      cells-turn (l .inv .0) (r .read-number .ensures) i,
+      tally-next _ _ (l .row) (l .j) _ i (l .inv .1) (omega (arith, blank, cell-is (l .inv .0) (r .read-number .ensures))),
+    )
+
+settle-requires-2 : tie.Need-settle-requires-2 Inv-loop μ-loop
+settle-requires-2 c κs = search needs
+
+same-length-3 : tie.Need-same-length-3 Inv-loop μ-loop
+same-length-3 c = search needs
+
+same-length-4 : tie.Need-same-length-4 Inv-loop μ-loop
+same-length-4 c = search needs
+
+returns-2 : tie.Need-returns-2 Inv-loop μ-loop
+returns-2 c =
     let l = c .before .before .loop in
-    let t = turn c in
-    (omega (arith, inside (c .before)), rest-next _ (l .j) (l .inv .1), t .0, t .1, t .2)
-
-same-length : tie.Need-same-length Inv-loop μ-loop
-same-length c = search needs
-
-returns : tie.Need-returns Inv-loop μ-loop
-returns c =
-    let s = c .before .before .before .before in
-    let l = c .before .loop in
-    let none : s .args .map / 2 ^ l .j ≡ 0 = sym (l .inv .1) ∙ c .loop-test .left in
-    (l .inv .2 ∙ cells-end _ _ _ (l .j) (l .inv .0) none, tally-zeros _ _ _ (l .j) (s .pre .3) (l .inv .4) (λ k g. cell-beyond _ _ _ (l .j) k none g), l .inv .3)
+    let none = c .before .loop-test .left in
+    let all = cells-done (l .inv .0) none (c .settle2 .ensures) in
+    let row = tally-zeros _ _ _ (l .j) (c .before .before .before .before .before .before .pre .2) (l .inv .1) (cells-none (l .inv .0) none) in
+    (all .0, all .1, row, all .2, all .3)
 
 pub take-cells-spec : {M : Type 1} → statement M
 take-cells-spec =
@@ -110,13 +130,25 @@ take-cells-spec =
     Inv-loop
     μ-loop
     loop-holds
-    number-at-requires
-    cast-out
-    mul-out
-    slice-write-out
-    add-at
+    read-number-requires
+    add-settle
+    settle-requires
+    same-length
+    same-length-2
+    returns
+    cast-row
+    mul-row
+    slice-write-row
+    mul-received
+    slice-read-received
+    add-received
+    mul-received-2
+    slice-write-received
+    add-total
     add-j
     loop-less
     loop-again
-    same-length
-    returns)
+    settle-requires-2
+    same-length-3
+    same-length-4
+    returns-2)

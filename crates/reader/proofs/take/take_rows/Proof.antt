@@ -1,100 +1,138 @@
--- `take_rows` meets its contract: after i rows the place, the counts and the cells are those of the first i; from n on no row stands.
-use Prim.Native.Nat.{_+_, _-_, _*_, _/_, _^_, _≤_, _<_}
-use native.Mathlib.Nat.{div-eq-of-lt}
+-- `take_rows` meets its contract: after i rows the cursor, the sums, the counts and the cells are those of the first i, the later ones still 0, and where
+-- nothing is left of the map or there is a fault no later row has anything.
+use Prim.Native.Nat.{ℕ, _+_, _-_, _*_, _<_}
 use native.Mathlib.Omega.{arith}
-use mathlib.Core.Path.{_≡_, refl, sym, ap, _∙_}
-use mathlib.Core.Logic.{⊎-elim}
+use mathlib.Core.Path.{sym, ap, _∙_}
 use borrow.Author.Needs.{needs}
-use lib.Pow.{pow-pos}
-use lib.ListN.{length, replicate}
-use Rattle.config.proofs.Clusters.{valid-bounds}
-use Rattle.ledger.proofs.Tables.{table-same}
-use Rattle.message.specs.Scans.{rowsAfter, countRead, cellOfRow}
-use Rattle.reader.specs.Steps.{place}
-use Rattle.ledger.proofs.Tallies.{Tallied, tally-none, tally-next, tally-same, zeros-at, tally-zeros}
-use Rattle.reader.proofs.Rows.{Filled, rows-none, row-blank, row-next, row-same, rows-all}
-use Rattle.reader.proofs.Steps.{ledger-is}
-use Rattle.reader.proofs.Rests.{rest-done, rows-end, count-unset, row-cells-unset, row-beyond}
-use Rattle.reader.proofs.Placed.{RowPassed, row-passed, row-skipped}
+use lib.ListN.{length, length-set, length-replicate}
+use Rattle.ledger.proofs.Tables.{table-length}
+use Rattle.reader.proofs.Rows.{row-blank}
+use Rattle.reader.proofs.Turns.{RowsSoFar, rows-start, rows-inside, rows-small, rows-turn, rows-clean, rows-stop, rows-none, rows-done, RowsTaken, taken-start, taken-turn, taken-all}
 use Rattle.reader.proofs.take.take_rows.Statement.{statement}
 use Rattle.reader.proofs.take.take_rows.Tie as tie
 
 abbrev Inv-loop : tie.InvT-loop
-Inv-loop config msg map counts₀ cells₀ at₀ i₀ counts cells at i =
-    (i ≤ config .n)
-    × (at ≡ rowsAfter config msg (map .x) map i .at)
-    × (at ≤ length msg)
-    × Tallied (countRead config msg (map .x) map) counts₀ counts i
-    × Filled (cellOfRow config msg (map .x) map) cells i
+Inv-loop config msg counts₀ cells₀ received₀ given₀ cursor₀ rest₀ i₀ counts cells received given cursor rest i =
+    RowsSoFar config msg rest₀ cursor₀ given₀ received given cursor rest i
+    × RowsTaken config msg rest₀ cursor₀ counts₀ counts cells i
 
 abbrev μ-loop : tie.MeasureT-loop
-μ-loop config msg map counts₀ cells₀ at₀ i₀ counts cells at i = config .n - i
+μ-loop config msg counts₀ cells₀ received₀ given₀ cursor₀ rest₀ i₀ counts cells received given cursor rest i = rest
 
 loop-holds : tie.Need-loop-holds Inv-loop μ-loop
-unfolding rowsAfter
-loop-holds c = (omega arith, refl, c .before .pre .3, tally-none _ _ refl, rows-none _)
+loop-holds c =
+    let p = c .before .before .before .before .before .pre in
+    (rows-start _ _ _ _ _ _ (p .1) (p .5) (p .6), taken-start _ _ _ _ _ _ (p .3) (p .4))
 
--- n is at most 16
-inside : (c : tie.Then1 Inv-loop μ-loop) → c .before .before .loop .i < 16
-inside c = omega (arith, c .if1 .taken, valid-bounds _ (c .before .before .before .before .pre .0) .most)
+-- the entry, from a turn, and the turn, from its call
 
--- a row that stands
-row : (c : tie.Then2 Inv-loop μ-loop) →
-    let a = c .before .before .before .before .before .before .args in
-    let l = c .before .before .before .before .loop in
-    RowPassed (a .msg .now) (l .at) (countRead (a .config) (a .msg .now) (a .map .x) (a .map) (l .i)) (cellOfRow (a .config) (a .msg .now) (a .map .x) (a .map) (l .i)) (rowsAfter (a .config) (a .msg .now) (a .map .x) (a .map) (l .i + 1) .at)
-row c =
-    let l = c .before .before .before .before .loop in
-    row-passed _ _ _ _ (l .i) (c .before .before .before .before .before .before .pre .1) (l .inv .1) (inside (c .before .before)) (sym (c .before .bit .ensures .0) ∙ c .if2 .taken)
+abbrev start : tie.In-loop Inv-loop μ-loop → tie.Start Inv-loop μ-loop
+start c = c .before .before .before .before .before .before .before
 
-bit-requires : tie.Need-bit-requires Inv-loop μ-loop
-bit-requires c κs = inside c
+abbrev turn : tie.After-take-row Inv-loop μ-loop → tie.In-loop Inv-loop μ-loop
+turn c = c .before .before .before
 
-number-at-requires : tie.Need-number-at-requires Inv-loop μ-loop
-number-at-requires c κs = (omega (arith, row c .fits), omega arith)
+-- the call, from the return at a fault, and from the end of the turn
 
-cast-counts : tie.Need-cast-counts Inv-loop μ-loop
-cast-counts c = omega (arith, c .number-at .ensures .1)
+abbrev faulty : tie.After-settle Inv-loop μ-loop → tie.After-take-row Inv-loop μ-loop
+faulty c = c .before .before .before .before .before .before .before .before .before
 
-mul-counts : tie.Need-mul-counts Inv-loop μ-loop
-mul-counts c = omega (arith, inside (c .before .before .before))
+abbrev passed : tie.Else1 Inv-loop μ-loop → tie.After-take-row Inv-loop μ-loop
+passed c = c .before .before .before .before .before .before .before .before
 
-array-write-counts : tie.Need-array-write-counts Inv-loop μ-loop
-array-write-counts c = inside (c .before .before .before)
-
-add-number-at : tie.Need-add-number-at Inv-loop μ-loop
-add-number-at c = omega (arith, row (c .before) .fits)
-
-number-at-requires-2 : tie.Need-number-at-requires-2 Inv-loop μ-loop
-number-at-requires-2 c κs = (omega (arith, row (c .before) .fits), omega arith)
+-- where something is left of the map, i is below 16
+inside : (c : tie.In-loop Inv-loop μ-loop) → c .before .loop .i < 16
+inside c = rows-inside (c .before .loop .inv .0) (start c .pre .2) (c .loop-test .taken)
 
 mul-a : tie.Need-mul-a Inv-loop μ-loop
-mul-a c = omega (arith, inside (c .before .before .before .before))
+mul-a c = omega (arith, inside c)
 
 add-e : tie.Need-add-e Inv-loop μ-loop
-add-e c = omega (arith, inside (c .before .before .before .before))
+add-e c = omega (arith, inside c)
 
-add-take-cells : tie.Need-add-take-cells Inv-loop μ-loop
-add-take-cells c = omega (arith, row (c .before .before) .fits)
+mul-take-row : tie.Need-mul-take-row Inv-loop μ-loop
+mul-take-row c = omega (arith, inside c, c .before .loop .inv .1 .filled .size)
 
-mul-cells : tie.Need-mul-cells Inv-loop μ-loop
-mul-cells c = omega (arith, inside (c .before .before .before .before))
+sub-take-row : tie.Need-sub-take-row Inv-loop μ-loop
+sub-take-row c = search needs
 
-sub-take-cells : tie.Need-sub-take-cells Inv-loop μ-loop
-sub-take-cells c = search needs
+part-take-row-start : tie.Need-part-take-row-start Inv-loop μ-loop
+part-take-row-start c = search needs
 
-part-cells-start : tie.Need-part-cells-start Inv-loop μ-loop
-part-cells-start c = search needs
+part-take-row-end : tie.Need-part-take-row-end Inv-loop μ-loop
+part-take-row-end c = omega (arith, inside c, c .before .loop .inv .1 .filled .size)
 
-part-cells-end : tie.Need-part-cells-end Inv-loop μ-loop
-part-cells-end c = omega (arith, inside (c .before .before .before .before), c .before .before .before .before .before .before .loop .inv .4 .size)
+take-row-requires : tie.Need-take-row-requires Inv-loop μ-loop
+take-row-requires c κs =
+    let t = c .before .before in
+    let l = t .before .loop in
+    let i = inside t in (
+      start t .pre .0,
+      i,
+      l .inv .0 .within,
+      row-blank _ (l .cells) (l .i) (l .i * 16 + 16 - l .i * 16) (omega arith) i (l .inv .1 .filled),
+      rows-small (l .inv .0),
+    )
 
-take-cells-requires : tie.Need-take-cells-requires Inv-loop μ-loop
-take-cells-requires c κs =
-    let found = row (c .before .before .before) in
-    let l = c .before .before .before .before .before .before .before .loop in
-    let i = inside (c .before .before .before .before .before) in
-    (rw (c .before .number-at2 .ensures .0) (found .cells-pass), omega (arith, c .before .number-at2 .ensures .1), found .fits, row-blank _ (l .cells) (l .i) (l .i * 16 + 16 - l .i * 16) (omega arith) i (l .inv .4))
+cast-counts : tie.Need-cast-counts Inv-loop μ-loop
+cast-counts c = omega (arith, c .before .before .before .before .before .take-row .ensures .2)
+
+mul-counts : tie.Need-mul-counts Inv-loop μ-loop
+mul-counts c = search needs
+
+slice-write-counts : tie.Need-slice-write-counts Inv-loop μ-loop
+slice-write-counts c =
+    let t = c .before .before .before .before .before .before .before .before in
+    omega (arith, inside t, t .before .loop .inv .1 .counted .size)
+
+mul-given : tie.Need-mul-given Inv-loop μ-loop
+mul-given c = search needs
+
+slice-write-given : tie.Need-slice-write-given Inv-loop μ-loop
+slice-write-given c =
+    let t = c .before .before .before .before .before .before .before .before in
+    omega (arith, inside t, t .before .loop .inv .0 .gives .size)
+
+add-settle : tie.Need-add-settle Inv-loop μ-loop
+add-settle c = search needs
+
+settle-requires : tie.Need-settle-requires Inv-loop μ-loop
+settle-requires c κs = search needs
+
+same-length : tie.Need-same-length Inv-loop μ-loop
+same-length c =
+    let t = turn (faulty c) in
+    simp length-set (t .before .loop .inv .1 .counted .size ∙ sym (ap length (start t .pre .3)))
+
+same-length-2 : tie.Need-same-length-2 Inv-loop μ-loop
+same-length-2 c =
+    let t = turn (faulty c) in
+    let l = t .before .loop in
+    let p = start t .pre in
+    let row = faulty c .take-row .ensures in
+    taken-turn (l .inv .1) (p .3) (l .inv .0) (inside t) (row .1) (row .4) {k = l .i * 16 + 16 - l .i * 16} (omega arith) .filled .size
+    ∙ sym (ap length (p .4) ∙ length-replicate {A = ℕ} 256 0)
+
+same-length-3 : tie.Need-same-length-3 Inv-loop μ-loop
+same-length-3 c = ap length (faulty c .take-row .ensures .5) ∙ table-length 16 _ ∙ sym (ap length (start (turn (faulty c)) .pre .5))
+
+same-length-4 : tie.Need-same-length-4 Inv-loop μ-loop
+same-length-4 c =
+    let t = turn (faulty c) in
+    simp length-set (t .before .loop .inv .0 .gives .size ∙ sym (ap length (start t .pre .6)))
+
+returns : tie.Need-returns Inv-loop μ-loop
+returns c =
+    let w = faulty c in
+    let t = turn w in
+    let p = start t .pre in
+    let l = t .before .loop in
+    let row = w .take-row .ensures in
+    let sums = rows-turn (l .inv .0) (inside t) (p .6) (row .0, row .3, row .5, row .6) in
+    let fault = c .before .if1 .taken in
+    let all = rows-stop sums fault (p .6) (c .settle .ensures) in
+    let taken = taken-all (taken-turn (l .inv .1) (p .3) (l .inv .0) (inside t) (row .1) (row .4) {k = l .i * 16 + 16 - l .i * 16} (omega arith)) (p .3) (rows-clean sums fault) in
+    (all .0, taken .0, taken .1, all .1, all .2, all .3)
 
 add-i : tie.Need-add-i Inv-loop μ-loop
 add-i c = search needs
@@ -102,46 +140,40 @@ add-i c = search needs
 loop-less : tie.Need-loop-less Inv-loop μ-loop
 loop-less c = search needs
 
--- a turn, whether the row stands or not
-turn : (c : tie.Joined2 Inv-loop μ-loop) →
-    let a = c .before .before .before .before .before .before .args in
-    let l = c .before .before .before .before .loop in
-    (c .if2 .at ≡ rowsAfter (a .config) (a .msg .now) (a .map .x) (a .map) (l .i + 1) .at)
-    × (c .if2 .at ≤ length (a .msg .now))
-    × Tallied (countRead (a .config) (a .msg .now) (a .map .x) (a .map)) (replicate 16 0) (c .if2 .counts) (l .i + 1)
-    × Filled (cellOfRow (a .config) (a .msg .now) (a .map .x) (a .map)) (c .if2 .cells) (l .i + 1)
-turn c =
-    let l = c .before .before .before .before .loop in
-    let i = inside (c .before .before) in
-    ⊎-elim
-    (λ w.
-    let found = row (record { before = c .before; if2 = w .0 }) in
-    let map = w .2 .ensures .0 in
-    let cells = w .4 .ensures in (
-      w .8 ∙ rw map at (cells .0) ∙ found .end-is,
-      omega (arith, w .8, cells .2),
-      rw (w .6) (tally-next _ _ (l .counts) (l .i) _ i (l .inv .3) (omega (arith, w .1 .ensures .0, found .count-is, zeros-at refl (l .i) i))),
-      rw (w .7) (row-next _ (l .cells) _ (l .i) (l .i * 16 + 16 - l .i * 16) (omega arith) (rw map at (cells .1) ∙ table-same 16 _ _ (λ j b. found .cells-are j)) i (l .inv .4)),
-    ))
-    (λ w.
-    let none = sym (c .before .bit .ensures .0) ∙ omega (arith, w .0 .left, c .before .bit .ensures .1) in
-    (w .3 ∙ row-skipped _ _ _ _ (l .i) (l .inv .1) none, omega (arith, w .3, l .inv .2), rw (w .1) (tally-same _ _ (l .counts) (l .i) (l .inv .3) (count-unset _ _ _ _ (l .i) none)), rw (w .2) (row-same _ (l .cells) (l .i) i (row-cells-unset _ _ _ _ (l .i) none) (l .inv .4))))
-    (c .if2 .came)
-
 loop-again : tie.Need-loop-again Inv-loop μ-loop
 loop-again c =
-    let t = turn c in
-    (omega (arith, c .before .before .if1 .taken), t .0, t .1, t .2, t .3)
+    let w = passed c in
+    let t = turn w in
+    let p = start t .pre in
+    let l = t .before .loop in
+    let row = w .take-row .ensures in (
+      rows-turn (l .inv .0) (inside t) (p .6) (row .0, row .3, row .5, row .6),
+      taken-turn (l .inv .1) (p .3) (l .inv .0) (inside t) (row .1) (row .4) {k = l .i * 16 + 16 - l .i * 16} (omega arith),
+    )
 
-returns : tie.Need-returns Inv-loop μ-loop
-returns c =
-    let s = c .before .before .before .before in
+settle-requires-2 : tie.Need-settle-requires-2 Inv-loop μ-loop
+settle-requires-2 c κs = search needs
+
+same-length-5 : tie.Need-same-length-5 Inv-loop μ-loop
+same-length-5 c = search needs
+
+same-length-6 : tie.Need-same-length-6 Inv-loop μ-loop
+same-length-6 c = search needs
+
+same-length-7 : tie.Need-same-length-7 Inv-loop μ-loop
+same-length-7 c = search needs
+
+same-length-8 : tie.Need-same-length-8 Inv-loop μ-loop
+same-length-8 c = search needs
+
+returns-2 : tie.Need-returns-2 Inv-loop μ-loop
+returns-2 c =
     let l = c .before .before .loop in
-    let e : l .i ≡ s .args .config .n = omega arith in
-    let most : l .i ≤ 16 = omega (arith, valid-bounds _ (s .pre .0) .most) in
-    let none : s .args .map .x / 2 ^ l .i ≡ 0 = rw e (div-eq-of-lt (omega (arith, s .pre .2, pow-pos (s .args .config .n)))) in
-    let counts = tally-zeros _ _ (l .counts) (l .i) refl (l .inv .3) (λ k g. count-unset _ _ _ _ k (rest-done _ (l .i) k none g)) in
-    (ledger-is _ _ _ _ counts (rows-all _ (l .cells) (l .i) (λ k g. row-beyond _ _ _ _ (l .i) k none g) (l .inv .4)), ap place (l .inv .1 ∙ rows-end _ _ _ _ (l .i) most none), l .inv .2)
+    let none = c .before .loop-test .left in
+    let p = c .before .before .before .before .before .before .before .before .pre in
+    let all = rows-done (l .inv .0) none (p .6) (c .settle2 .ensures) in
+    let taken = taken-all (l .inv .1) (p .3) (rows-none (l .inv .0) none) in
+    (all .0, taken .0, taken .1, all .1, all .2, all .3)
 
 pub take-rows-spec : {M : Type 1} → statement M
 take-rows-spec =
@@ -150,22 +182,31 @@ take-rows-spec =
     Inv-loop
     μ-loop
     loop-holds
-    bit-requires
-    number-at-requires
-    cast-counts
-    mul-counts
-    array-write-counts
-    add-number-at
-    number-at-requires-2
     mul-a
     add-e
-    add-take-cells
-    mul-cells
-    sub-take-cells
-    part-cells-start
-    part-cells-end
-    take-cells-requires
+    mul-take-row
+    sub-take-row
+    part-take-row-start
+    part-take-row-end
+    take-row-requires
+    cast-counts
+    mul-counts
+    slice-write-counts
+    mul-given
+    slice-write-given
+    add-settle
+    settle-requires
+    same-length
+    same-length-2
+    same-length-3
+    same-length-4
+    returns
     add-i
     loop-less
     loop-again
-    returns)
+    settle-requires-2
+    same-length-5
+    same-length-6
+    same-length-7
+    same-length-8
+    returns-2)

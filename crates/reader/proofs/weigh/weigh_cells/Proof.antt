@@ -1,38 +1,24 @@
 -- `weigh_cells` meets its contract: after j cells the cursor, the total and the sums are those of the first j, and where nothing is left of the map the
 -- others read nothing.
-use Prim.Native.Nat.{ℕ, _+_, _*_, _/_, _^_, _≤_, _<_}
-use native.Mathlib.Nat.{div-one}
+use Prim.Native.Nat.{_<_}
 use native.Mathlib.Omega.{arith}
-use mathlib.Core.Path.{_≡_, refl, sym, ap, _∙_}
 use borrow.Author.Needs.{needs}
-use lib.ListN.{length}
-use Rattle.quorums.specs.Sum.{sum}
-use Rattle.quorums.proofs.Sums.{sum-next}
-use Rattle.message.specs.declared.state.Cursor.{Cursor}
-use Rattle.message.specs.Scans.{cellsAfter, cellRead}
-use Rattle.reader.specs.Steps.{settled}
-use Rattle.reader.proofs.Steps.{cells-next, cell-next}
-use Rattle.reader.proofs.Rests.{rest-bit, rest-next, rest-inside, cells-settle, cell-beyond, cells-fault, cell-after-fault}
-use Rattle.ledger.proofs.Tallies.{Tallied, tally-none, tally-next, tally-all, sum-all}
+use Rattle.reader.proofs.Turns.{CellsSoFar, cells-start, cells-inside, cells-turn, cells-stop, cells-done}
 use Rattle.reader.proofs.weigh.weigh_cells.Statement.{statement}
 use Rattle.reader.proofs.weigh.weigh_cells.Tie as tie
 
 abbrev Inv-loop : tie.InvT-loop
-Inv-loop msg map received₀ cursor₀ total₀ rest₀ j₀ received cursor total rest j =
-    (j ≤ 16)
-    × (rest ≡ map / 2 ^ j)
-    × (cursor ≡ cellsAfter msg map cursor₀ j)
-    × (total ≡ sum j (cellRead msg map cursor₀))
-    × (total ≤ j * 4294967295)
-    × (cursor .at ≤ length msg)
-    × Tallied (cellRead msg map cursor₀) received₀ received j
+Inv-loop msg map received₀ cursor₀ total₀ rest₀ j₀ received cursor total rest j = CellsSoFar msg map cursor₀ received₀ received cursor total rest j
 
 abbrev μ-loop : tie.MeasureT-loop
 μ-loop msg map received₀ cursor₀ total₀ rest₀ j₀ received cursor total rest j = rest
 
 loop-holds : tie.Need-loop-holds Inv-loop μ-loop
-unfolding cellsAfter sum
-loop-holds c = (omega arith, sym (div-one _), refl, refl, omega arith, c .before .before .pre .0, tally-none _ _ (c .before .before .pre .2 .size))
+loop-holds c = let p = c .before .before .pre in cells-start _ _ _ _ (p .0) (p .2 .size)
+
+-- where something is left of the map, j is below 16
+inside : (c : tie.In-loop Inv-loop μ-loop) → c .before .loop .j < 16
+inside c = cells-inside (c .before .loop .inv) (c .before .before .before .before .pre .1) (c .loop-test .taken)
 
 read-number-requires : tie.Need-read-number-requires Inv-loop μ-loop
 read-number-requires c κs = search needs
@@ -48,42 +34,31 @@ same-length c = search needs
 
 returns : tie.Need-returns Inv-loop μ-loop
 returns c =
-    let a = c .before .before .before .before .before .before .before .before .args in
-    let l = c .before .before .before .before .before .loop in
-    let inside : l .j < 16 = rest-inside _ (l .j) (l .rest) (c .before .before .before .before .before .before .before .before .pre .1) (l .inv .1) (c .before .before .before .before .loop-test .taken) in
-    let r = c .before .before .before .read-number in
-    let next : r .result ≡ cellsAfter (a .msg .now) (a .map) (a .cursor) (l .j + 1) = cells-next _ _ _ (l .j) _ (l .inv .2) (rest-bit _ (l .j) (l .inv .1)) (r .ensures .0) in
-    let fault : cellsAfter (a .msg .now) (a .map) (a .cursor) (l .j + 1) .number ≡ 0 → ⊥ = λ e. c .before .if1 .taken (ap (λ (d : Cursor). d .number) next ∙ e) in
-    let beyond : (k : ℕ) → l .j ≤ k → cellRead (a .msg .now) (a .map) (a .cursor) k ≡ 0 = λ k g. cell-after-fault _ _ _ (l .j) k fault g in (
-      c .settle .ensures .0 ∙ ap (settled (l .j + 1)) next ∙ cells-fault _ _ _ (l .j) inside fault,
-      l .inv .3 ∙ sum-all _ (l .j) (l .inv .0) beyond,
-      tally-all _ _ _ (l .j) (l .inv .6) beyond,
-      omega (arith, c .settle .ensures .1, r .ensures .1),
-    )
+    let r = c .before .before .before in
+    cells-stop (r .before .before .loop .inv) (r .read-number .ensures) (c .before .if1 .taken) (inside (r .before)) (c .settle .ensures)
 
 mul-received : tie.Need-mul-received Inv-loop μ-loop
 mul-received c = search needs
 
 slice-read-received : tie.Need-slice-read-received Inv-loop μ-loop
 slice-read-received c =
-    let l = c .before .before .before .before .before .loop in
-    let inside : l .j < 16 = rest-inside _ (l .j) (l .rest) (c .before .before .before .before .before .before .before .before .pre .1) (l .inv .1) (c .before .before .before .before .loop-test .taken) in
-    omega (arith, inside, l .inv .6 .size)
+    let l = c .before .before .before .before in
+    omega (arith, inside l, l .before .loop .inv .added .size)
 
 add-received : tie.Need-add-received Inv-loop μ-loop
 add-received c =
-    let l = c .before .before .before .before .before .before .loop in
-    let room = c .before .before .before .before .before .before .before .before .before .pre .2 .small (l .j) in
-    omega (arith, l .inv .6 .left (l .j) (omega arith), room, c .before .before .before .before .read-number .ensures .2)
+    let r = c .before .before .before .before in
+    let l = r .before .before .loop in
+    let room = r .before .before .before .before .before .pre .2 .small (l .j) in
+    omega (arith, l .inv .added .left (l .j) (omega arith), room, r .read-number .ensures .2)
 
 mul-received-2 : tie.Need-mul-received-2 Inv-loop μ-loop
 mul-received-2 c = search needs
 
 slice-write-received : tie.Need-slice-write-received Inv-loop μ-loop
 slice-write-received c =
-    let l = c .before .before .before .before .before .before .loop in
-    let inside : l .j < 16 = rest-inside _ (l .j) (l .rest) (c .before .before .before .before .before .before .before .before .before .pre .1) (l .inv .1) (c .before .before .before .before .before .loop-test .taken) in
-    omega (arith, inside, l .inv .6 .size)
+    let l = c .before .before .before .before .before in
+    omega (arith, inside l, l .before .loop .inv .added .size)
 
 add-total : tie.Need-add-total Inv-loop μ-loop
 add-total c = search needs
@@ -96,20 +71,8 @@ loop-less c = search needs
 
 loop-again : tie.Need-loop-again Inv-loop μ-loop
 loop-again c =
-    let a = c .before .before .before .before .before .before .before .before .before .before .args in
-    let l = c .before .before .before .before .before .before .before .loop in
-    let inside : l .j < 16 = rest-inside _ (l .j) (l .rest) (c .before .before .before .before .before .before .before .before .before .before .pre .1) (l .inv .1) (c .before .before .before .before .before .before .loop-test .taken) in
-    let r = c .before .before .before .before .before .read-number in
-    let next : r .result ≡ cellsAfter (a .msg .now) (a .map) (a .cursor) (l .j + 1) = cells-next _ _ _ (l .j) _ (l .inv .2) (rest-bit _ (l .j) (l .inv .1)) (r .ensures .0) in
-    let cell : r .result .x ≡ cellRead (a .msg .now) (a .map) (a .cursor) (l .j) = cell-next _ _ _ _ next in (
-      omega arith,
-      rest-next _ (l .j) (l .inv .1),
-      next,
-      omega (arith, l .inv .3, sum-next (l .j) (cellRead (a .msg .now) (a .map) (a .cursor)), cell),
-      omega (arith, l .inv .4, r .ensures .2),
-      r .ensures .1,
-      tally-next _ _ (l .received) (l .j) _ inside (l .inv .6) (omega (arith, l .inv .6 .left (l .j) (omega arith), cell)),
-    )
+    let r = c .before .before .before .before .before in
+    cells-turn (r .before .before .loop .inv) (r .read-number .ensures) (inside (r .before))
 
 settle-requires-2 : tie.Need-settle-requires-2 Inv-loop μ-loop
 settle-requires-2 c κs = search needs
@@ -118,16 +81,7 @@ same-length-2 : tie.Need-same-length-2 Inv-loop μ-loop
 same-length-2 c = search needs
 
 returns-2 : tie.Need-returns-2 Inv-loop μ-loop
-returns-2 c =
-    let a = c .before .before .before .before .before .args in
-    let l = c .before .before .loop in
-    let none : a .map / 2 ^ l .j ≡ 0 = sym (l .inv .1) ∙ c .before .loop-test .left in
-    let beyond : (k : ℕ) → l .j ≤ k → cellRead (a .msg .now) (a .map) (a .cursor) k ≡ 0 = λ k g. cell-beyond _ _ _ (l .j) k none g in (
-      c .settle2 .ensures .0 ∙ ap (settled (l .j)) (l .inv .2) ∙ cells-settle _ _ _ (l .j) (l .inv .0) none,
-      l .inv .3 ∙ sum-all _ (l .j) (l .inv .0) beyond,
-      tally-all _ _ _ (l .j) (l .inv .6) beyond,
-      omega (arith, c .settle2 .ensures .1, l .inv .5),
-    )
+returns-2 c = cells-done (c .before .before .loop .inv) (c .before .loop-test .left) (c .settle2 .ensures)
 
 pub weigh-cells-spec : {M : Type 1} → statement M
 weigh-cells-spec =

@@ -1,58 +1,39 @@
 -- `weigh_rows` meets its contract: after i rows the cursor and the sums are those of the first i, and where nothing is left of the map the others add
 -- nothing.
-use Prim.Native.Nat.{ℕ, _+_, _/_, _^_, _≤_, _<_}
-use native.Mathlib.Nat.{div-one}
+use Prim.Native.Nat.{_<_}
 use native.Mathlib.Omega.{arith}
-use mathlib.Core.Path.{_≡_, refl, sym, ap, _∙_}
+use mathlib.Core.Path.{sym, ap, _∙_}
 use borrow.Author.Needs.{needs}
-use lib.ListN.{length, getD, length-set}
-use Rattle.quorums.specs.Sum.{sum}
-use Rattle.ledger.proofs.Tables.{table-length}
-use Rattle.message.specs.declared.state.Cursor.{Cursor}
-use Rattle.message.specs.Scans.{cellOfRow, rowsAfter}
-use Rattle.reader.specs.Steps.{settled}
-use Rattle.reader.proofs.Rests.{rest-bit, rest-next, rest-inside, rows-settle, row-beyond, rows-fault, row-after-fault}
-use Rattle.ledger.proofs.Tallies.{Tallied, tally-none, tally-next, zeros-at, bounded, sum-most}
-use Rattle.reader.proofs.Weighed.{row-cursor, row-received, row-given, cell-most, rows-received, rows-given}
+use lib.ListN.{length, length-set}
+use Rattle.reader.proofs.Turns.{RowsSoFar, rows-start, rows-inside, rows-small, rows-turn, rows-stop, rows-done}
 use Rattle.reader.proofs.weigh.weigh_rows.Statement.{statement}
 use Rattle.reader.proofs.weigh.weigh_rows.Tie as tie
 
 abbrev Inv-loop : tie.InvT-loop
-Inv-loop config msg received₀ given₀ cursor₀ rest₀ i₀ received given cursor rest i =
-    (i ≤ 16)
-    × (rest ≡ rest₀ / 2 ^ i)
-    × (cursor ≡ rowsAfter config msg rest₀ cursor₀ i)
-    × (cursor .at ≤ length msg)
-    × (length received ≡ 16)
-    × ((k : ℕ) → k < 16 → getD received k 0 ≡ sum i (λ r. cellOfRow config msg rest₀ cursor₀ r k))
-    × Tallied (λ r. sum 16 (cellOfRow config msg rest₀ cursor₀ r)) given₀ given i
+Inv-loop config msg received₀ given₀ cursor₀ rest₀ i₀ received given cursor rest i = RowsSoFar config msg rest₀ cursor₀ given₀ received given cursor rest i
 
 abbrev μ-loop : tie.MeasureT-loop
 μ-loop config msg received₀ given₀ cursor₀ rest₀ i₀ received given cursor rest i = rest
 
 loop-holds : tie.Need-loop-holds Inv-loop μ-loop
-unfolding rowsAfter sum
-loop-holds c =
-    let p = c .before .before .before .pre in
-    (omega arith, sym (div-one _), refl, p .1, ap length (p .3), zeros-at (p .3), tally-none _ _ (ap length (p .4)))
+loop-holds c = let p = c .before .before .before .pre in rows-start _ _ _ _ _ _ (p .1) (p .3) (p .4)
+
+-- where something is left of the map, i is below 16
+inside : (c : tie.In-loop Inv-loop μ-loop) → c .before .loop .i < 16
+inside c = rows-inside (c .before .loop .inv) (c .before .before .before .before .before .pre .2) (c .loop-test .taken)
 
 weigh-row-requires : tie.Need-weigh-row-requires Inv-loop μ-loop
 weigh-row-requires c κs =
     let l = c .before .before .loop in
-    let inside : l .i < 16 = rest-inside _ (l .i) (l .rest) (c .before .before .before .before .before .before .pre .2) (l .inv .1) (c .before .loop-test .taken) in
-    let a = c .before .before .before .before .before .before .args in
-    let small : (k : ℕ) → k < 16 → getD (l .received) k 0 ≤ 18446744069414584320 =
-    λ k g. omega (arith, l .inv .5 k g, sum-most (l .i) (λ r. cellOfRow (a .config) (a .msg .now) (a .map .x) (a .map) r k) (λ r. cell-most _ _ _ _ r k), l .inv .0) in
-    (c .before .before .before .before .before .before .pre .0, inside, l .inv .3, record { size = l .inv .4; small = bounded (l .received) 18446744069414584320 (l .inv .4) small })
+    (c .before .before .before .before .before .before .pre .0, inside (c .before), l .inv .within, rows-small (l .inv))
 
 mul-given : tie.Need-mul-given Inv-loop μ-loop
 mul-given c = search needs
 
 slice-write-given : tie.Need-slice-write-given Inv-loop μ-loop
 slice-write-given c =
-    let l = c .before .before .before .before .before .loop in
-    let inside : l .i < 16 = rest-inside _ (l .i) (l .rest) (c .before .before .before .before .before .before .before .before .before .pre .2) (l .inv .1) (c .before .before .before .before .loop-test .taken) in
-    omega (arith, inside, l .inv .6 .size)
+    let l = c .before .before .before .before in
+    omega (arith, inside l, l .before .loop .inv .gives .size)
 
 add-settle : tie.Need-add-settle Inv-loop μ-loop
 add-settle c = search needs
@@ -62,28 +43,20 @@ settle-requires c κs = search needs
 
 same-length : tie.Need-same-length Inv-loop μ-loop
 same-length c =
-    ap length (c .before .before .before .before .before .before .weigh-row .ensures .2) ∙ table-length 16 _ ∙ sym (ap length (c .before .before .before .before .before .before .before .before .before .before .before .before .before .pre .3))
+    let w = c .before .before .before .before .before .before in
+    omega (arith, w .weigh-row .kept, w .before .before .before .loop .inv .size, ap length (w .before .before .before .before .before .before .before .pre .3))
 
 same-length-2 : tie.Need-same-length-2 Inv-loop μ-loop
-same-length-2 c = simp length-set (c .before .before .before .before .before .before .before .before .before .loop .inv .6 .size ∙ sym (ap length (c .before .before .before .before .before .before .before .before .before .before .before .before .before .pre .4)))
+same-length-2 c =
+    let l = c .before .before .before .before .before .before .before .before .before in
+    simp length-set (l .loop .inv .gives .size ∙ sym (ap length (l .before .before .before .before .pre .4)))
 
 returns : tie.Need-returns Inv-loop μ-loop
 returns c =
-    let s = c .before .before .before .before .before .before .before .before .before .before .before .before .before in
-    let a = s .args in
-    let l = c .before .before .before .before .before .before .before .before .before .loop in
-    let inside : l .i < 16 = rest-inside _ (l .i) (l .rest) (s .pre .2) (l .inv .1) (c .before .before .before .before .before .before .before .before .loop-test .taken) in
-    let stands = rest-bit _ (l .i) (l .inv .1) in
-    let row = c .before .before .before .before .before .before .weigh-row .ensures in
-    let next : c .before .before .before .before .before .before .weigh-row .result .cursor ≡ rowsAfter (a .config) (a .msg .now) (a .map .x) (a .map) (l .i + 1) = row-cursor _ _ _ _ (l .i) _ (l .inv .2) stands (row .0) in
-    let fault : rowsAfter (a .config) (a .msg .now) (a .map .x) (a .map) (l .i + 1) .number ≡ 0 → ⊥ = λ e. c .before .if1 .taken (ap (λ (d : Cursor). d .number) next ∙ e) in
-    let empty : (r : ℕ) → l .i + 1 ≤ r → (j : ℕ) → cellOfRow (a .config) (a .msg .now) (a .map .x) (a .map) r j ≡ 0 = λ r g. row-after-fault _ _ _ _ (l .i) r fault g in
-    let total = row-given _ _ _ _ (l .i) _ (l .inv .2) stands (row .1) in (
-      c .settle .ensures .0 ∙ ap (settled (l .i + 1)) next ∙ rows-fault _ _ _ _ (l .i) inside fault,
-      rows-received _ _ _ _ (l .i + 1) (omega arith) empty _ (ap length (row .2) ∙ table-length 16 _) (row-received _ _ _ _ (l .i) _ (l .received) (l .inv .2) stands (row .2) (l .inv .5)),
-      rows-given _ _ _ _ (l .i + 1) (omega arith) empty _ _ (s .pre .4) (tally-next _ _ (l .given) (l .i) _ inside (l .inv .6) (omega (arith, total, zeros-at (s .pre .4) (l .i) inside))),
-      omega (arith, c .settle .ensures .1, row .3),
-    )
+    let w = c .before .before .before .before .before .before in
+    let l = w .before .before .before .loop in
+    let blank = w .before .before .before .before .before .before .before .pre .4 in
+    rows-stop (rows-turn (l .inv) (inside (w .before .before)) blank (w .weigh-row .ensures)) (c .before .if1 .taken) blank (c .settle .ensures)
 
 add-i : tie.Need-add-i Inv-loop μ-loop
 add-i c = search needs
@@ -93,41 +66,21 @@ loop-less c = search needs
 
 loop-again : tie.Need-loop-again Inv-loop μ-loop
 loop-again c =
-    let s = c .before .before .before .before .before .before .before .before .before .before .before .before in
-    let l = c .before .before .before .before .before .before .before .before .loop in
-    let inside : l .i < 16 = rest-inside _ (l .i) (l .rest) (s .pre .2) (l .inv .1) (c .before .before .before .before .before .before .before .loop-test .taken) in
-    let stands = rest-bit _ (l .i) (l .inv .1) in
-    let row = c .before .before .before .before .before .weigh-row .ensures in
-    let total = row-given _ _ _ _ (l .i) _ (l .inv .2) stands (row .1) in (
-      omega arith,
-      rest-next _ (l .i) (l .inv .1),
-      row-cursor _ _ _ _ (l .i) _ (l .inv .2) stands (row .0),
-      row .3,
-      ap length (row .2) ∙ table-length 16 _,
-      row-received _ _ _ _ (l .i) _ (l .received) (l .inv .2) stands (row .2) (l .inv .5),
-      tally-next _ _ (l .given) (l .i) _ inside (l .inv .6) (omega (arith, total, zeros-at (s .pre .4) (l .i) inside)),
-    )
+    let w = c .before .before .before .before .before in
+    rows-turn (w .before .before .before .loop .inv) (inside (w .before .before)) (w .before .before .before .before .before .before .before .pre .4) (w .weigh-row .ensures)
 
 settle-requires-2 : tie.Need-settle-requires-2 Inv-loop μ-loop
 settle-requires-2 c κs = search needs
 
 same-length-3 : tie.Need-same-length-3 Inv-loop μ-loop
-same-length-3 c = c .before .before .loop .inv .4 ∙ sym (ap length (c .before .before .before .before .before .before .pre .3))
+same-length-3 c = c .before .before .loop .inv .size ∙ sym (ap length (c .before .before .before .before .before .before .pre .3))
 
 same-length-4 : tie.Need-same-length-4 Inv-loop μ-loop
-same-length-4 c = c .before .before .loop .inv .6 .size ∙ sym (ap length (c .before .before .before .before .before .before .pre .4))
+same-length-4 c = c .before .before .loop .inv .gives .size ∙ sym (ap length (c .before .before .before .before .before .before .pre .4))
 
 returns-2 : tie.Need-returns-2 Inv-loop μ-loop
 returns-2 c =
-    let s = c .before .before .before .before .before .before in
-    let l = c .before .before .loop in
-    let none : s .args .map .x / 2 ^ l .i ≡ 0 = sym (l .inv .1) ∙ c .before .loop-test .left in
-    let empty : (r : ℕ) → l .i ≤ r → (j : ℕ) → cellOfRow (s .args .config) (s .args .msg .now) (s .args .map .x) (s .args .map) r j ≡ 0 = λ r g. row-beyond _ _ _ _ (l .i) r none g in (
-      c .settle2 .ensures .0 ∙ ap (settled (l .i)) (l .inv .2) ∙ rows-settle _ _ _ _ (l .i) (l .inv .0) none,
-      rows-received _ _ _ _ (l .i) (l .inv .0) empty _ (l .inv .4) (l .inv .5),
-      rows-given _ _ _ _ (l .i) (l .inv .0) empty _ _ (s .pre .4) (l .inv .6),
-      omega (arith, c .settle2 .ensures .1, l .inv .3),
-    )
+    rows-done (c .before .before .loop .inv) (c .before .loop-test .left) (c .before .before .before .before .before .before .pre .4) (c .settle2 .ensures)
 
 pub weigh-rows-spec : {M : Type 1} → statement M
 weigh-rows-spec =

@@ -5,11 +5,11 @@ use Rattle.ledger.proofs.Joins.{lacks-counts}
 use Rattle.ledger.proofs.ledger.Ledger.lacks.Statement.{statement}
 use Rattle.ledger.proofs.ledger.Ledger.lacks.Tie as tie
 
-lacks-lent-requires : tie.Need-lacks-lent-requires
-lacks-lent-requires c κs = search needs
+lacks-requires : tie.Need-lacks-requires
+lacks-requires c κs = search needs
 
 returns : tie.Need-returns
-returns c = let a = c .before .before .before .before .before .args in c .lacks-lent .ensures ∙ lacks-counts (a .t1) (a .t2)
+returns c = let a = c .before .before .before .before .before .before .before .args in c .lacks .ensures ∙ lacks-counts (a .t1) (a .t2)
 
 pub lacks-spec : {M : Type 1} → statement M
-lacks-spec = tie.close (tie.spec lacks-lent-requires returns)
+lacks-spec = tie.close (tie.spec lacks-requires returns)

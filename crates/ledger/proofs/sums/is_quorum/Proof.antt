@@ -1,0 +1,154 @@
+-- `is_quorum` meets its contract: after i turns both sides are the sums over the servers below i that the map names.
+use Prim.Native.Nat.{_+_, _-_, _≤_, _<_}
+use native.Mathlib.Omega.{arith}
+use mathlib.Core.Path.{_≡_, sym, _∙_}
+use mathlib.Core.Logic.{⊎-elim}
+use borrow.Author.Needs.{needs}
+use lib.ListN.{getD}
+use Rattle.config.specs.Answers.{totalAnswer}
+use Rattle.config.specs.declared.answer.Number.{Number}
+use Rattle.config.proofs.Clusters.{valid-bounds}
+use Rattle.ledger.proofs.Weights.{total-stands, total-bound, Counted, counted-none, counted-room, counted-named, counted-passed, quorum-at}
+use Rattle.ledger.proofs.sums.is_quorum.Statement.{statement}
+use Rattle.ledger.proofs.sums.is_quorum.Tie as tie
+
+abbrev Inv-loop : tie.InvT-loop
+Inv-loop config received given map total n held₀ gave₀ i₀ held gave i = (i ≤ config .n) × Counted config received given map i held gave
+
+abbrev μ-loop : tie.MeasureT-loop
+μ-loop config received given map total n held₀ gave₀ i₀ held gave i = config .n - i
+
+total-requires : tie.Need-total-requires Inv-loop μ-loop
+total-requires c κs = search needs
+
+enum-known-total : tie.Need-enum-known-total Inv-loop μ-loop
+enum-known-total c = search needs
+
+enum-told : tie.Need-enum-told Inv-loop μ-loop
+enum-told c = search needs
+
+returns : tie.Need-returns Inv-loop μ-loop
+returns c = absurd (total-stands _ _ (c .before .before .before .before .before .pre .0) (sym (c .before .before .total .ensures) ∙ c .enum-told .given .1))
+
+loop-holds : tie.Need-loop-holds Inv-loop μ-loop
+loop-holds c = (omega arith, counted-none _ _ _ _)
+
+start-at-requires : tie.Need-start-at-requires Inv-loop μ-loop
+start-at-requires c κs = search needs
+
+-- the entry, and the turn
+
+abbrev entry : tie.At-loop Inv-loop μ-loop → tie.Start Inv-loop μ-loop
+entry c = c .before .before .before .before .before .before .before
+
+abbrev turn : tie.After-start-at Inv-loop μ-loop → tie.At-loop Inv-loop μ-loop
+turn c = c .before .before
+
+small : (c : tie.In-loop Inv-loop μ-loop) → c .before .loop .i < 16
+small c = omega (arith, c .loop-test .taken, valid-bounds _ (entry (c .before) .pre .0) .most)
+
+-- what a turn may add fits
+room : (c : tie.After-start-at Inv-loop μ-loop) →
+    let a = entry (turn c) .args in
+    let l = turn c .loop in
+    (l .held + c .start-at .result + getD (a .received .now) (l .i) 0 ≤ 1099511883520) × (l .gave + getD (a .given .now) (l .i) 0 ≤ 1099511883520)
+room c =
+    let s = entry (turn c) in
+    counted-room (turn c .loop .inv .1) (s .pre .1) (s .pre .2) (c .start-at .ensures) (small (c .before))
+
+names-requires : tie.Need-names-requires Inv-loop μ-loop
+names-requires c κs = small (c .before)
+
+add-held : tie.Need-add-held Inv-loop μ-loop
+add-held c = omega (arith, room (c .before .before))
+
+mul-held : tie.Need-mul-held Inv-loop μ-loop
+mul-held c = omega (arith, small (c .before .before .before))
+
+shared-slice-read-held : tie.Need-shared-slice-read-held Inv-loop μ-loop
+shared-slice-read-held c = let t = c .before .before .before .before in omega (arith, small t, entry (t .before) .pre .1 .size)
+
+add-held-2 : tie.Need-add-held-2 Inv-loop μ-loop
+add-held-2 c = omega (arith, room (c .before .before .before))
+
+mul-gave : tie.Need-mul-gave Inv-loop μ-loop
+mul-gave c = omega (arith, small (c .before .before .before .before))
+
+shared-slice-read-gave : tie.Need-shared-slice-read-gave Inv-loop μ-loop
+shared-slice-read-gave c = let t = c .before .before .before .before .before in omega (arith, small t, entry (t .before) .pre .2 .size)
+
+add-gave : tie.Need-add-gave Inv-loop μ-loop
+add-gave c = omega (arith, room (c .before .before .before .before))
+
+add-i : tie.Need-add-i Inv-loop μ-loop
+add-i c = search needs
+
+loop-less : tie.Need-loop-less Inv-loop μ-loop
+loop-less c = search needs
+
+loop-again : tie.Need-loop-again Inv-loop μ-loop
+loop-again c =
+    let x = c .before .before in
+    let s = entry (turn x) in
+    let sums = turn x .loop .inv .1 in
+    let named = sym (c .before .names .ensures) in (
+      omega (arith, x .before .loop-test .taken),
+      ⊎-elim (λ w. counted-named sums (s .pre .1) (s .pre .2) (x .start-at .ensures) (named ∙ w .0 .taken) (w .3) (w .4))
+          (λ w. counted-passed sums (s .pre .1) (s .pre .2) (x .start-at .ensures) (named ∙ w .0 .left) (w .1) (w .2))
+          (c .if1 .came),
+    )
+
+-- the sums are small
+bound : (c : tie.After-loop Inv-loop μ-loop) → (c .before .loop .held ≤ 1099511883520) × (c .before .loop .gave ≤ 1099511883520)
+bound c =
+    let most = valid-bounds _ (entry (c .before) .pre .0) .most in
+    let all = c .before .loop .inv .1 in
+    (omega (arith, all .held-small), omega (arith, all .gave-small))
+
+total-is : (c : tie.After-known-told Inv-loop μ-loop) → totalAnswer (c .before .before .before .before .before .before .args .config) ≡ Number.Value (c .before .total2 .given .0 .0)
+total-is c = sym (c .before .before .before .total .ensures) ∙ c .before .total2 .given .1
+
+mul-result : tie.Need-mul-result Inv-loop μ-loop
+mul-result c = omega (arith, bound c)
+
+add-result : tie.Need-add-result Inv-loop μ-loop
+add-result c = omega (arith, bound c, total-bound _ _ (total-is (c .before .before)))
+
+mul-result-2 : tie.Need-mul-result-2 Inv-loop μ-loop
+mul-result-2 c = omega (arith, bound c)
+
+returns-2 : tie.Need-returns-2 Inv-loop μ-loop
+returns-2 c =
+    let a = entry (c .before) .args in
+    let l = c .before .loop in
+    let e : l .i ≡ a .config .n = omega arith in
+    let all : Counted (a .config) (a .received .now) (a .given .now) (a .map) (a .config .n) (l .held) (l .gave) = rw e at (l .inv .1) in
+    quorum-at (a .config) (a .received .now) (a .given .now) (a .map) _ _ _ (total-is (c .before .before)) (all .held-is) (all .gave-is)
+
+pub is-quorum-spec : {M : Type 1} → statement M
+is-quorum-spec =
+    tie.close
+    (tie.spec
+    Inv-loop
+    μ-loop
+    total-requires
+    enum-known-total
+    enum-told
+    returns
+    loop-holds
+    start-at-requires
+    names-requires
+    add-held
+    mul-held
+    shared-slice-read-held
+    add-held-2
+    mul-gave
+    shared-slice-read-gave
+    add-gave
+    add-i
+    loop-less
+    loop-again
+    mul-result
+    add-result
+    mul-result-2
+    returns-2)
