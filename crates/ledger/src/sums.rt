@@ -85,22 +85,26 @@ pub(crate) fn faults(
     below + left_over(counts, cells, n, received)
 }
 
-// The faults of the rows below n, which have a server each, and their sums. The loop has no way out but its end.
+// The faults of the rows below n, which have a server each, and their sums. The loop has no way out but its end. What is received is added up in an array
+// of its own, and each row is gone through twice: so a compiler keeps the sums in vectors. In an array that is lent it would write each of them for each cell.
 fn tally(counts: &[u16], cells: &[u32], n: u64, received: &mut [u64], given: &mut [u64]) -> u64
     requires { ⌜ (length (now counts) ≡ 16) × (length (now cells) ≡ 256) × (n ≤ 16) × (now received ≡ replicate 16 0) × (now given ≡ replicate 16 0) ⌝ }
     ensures { λ r. ⌜ (r ≡ sum n (rowFaults (ledgerOf (now (counts .entry)) (now (cells .entry))))) × (r ≤ 68719476752) × (now (received .exit) ≡ table 16 (receivedFrom n (ledgerOf (now (counts .entry)) (now (cells .entry))))) × (now (given .exit) ≡ table 16 (givenBelow n (ledgerOf (now (counts .entry)) (now (cells .entry))))) × Sums 68719476720 (now (received .exit)) × Sums 68719476720 (now (given .exit)) ⌝ }
 {
     let end = n as usize;
+    let mut sums: [u64; 16] = [0; 16];
     let mut faults: u64 = 0;
     let mut i: usize = 0;
     while i < end {
         let a = i * 16;
         let e = a + 16;
-        let total = row_sums(&cells[a..e], received);
+        let total = row_total(&cells[a..e]);
         faults += row_faults(cells[i * 17], counts[i], total);
         given[i] = total;
+        add_row(&cells[a..e], &mut sums);
         i += 1;
     }
+    put_sums(received, &sums);
     faults
 }
 
@@ -137,20 +141,42 @@ fn filled(row: &[u32]) -> u64
     1
 }
 
-// The total of a row, with each cell added to what its taker received.
-fn row_sums(row: &[u32], received: &mut [u64]) -> u64
-    requires { ⌜ (length (now row) ≡ 16) × Sums 18446744069414584320 (now received) ⌝ }
-    ensures { λ r. ⌜ (r ≡ sum 16 (λ j. getD (now (row .entry)) j 0)) × (r ≤ 68719476720) × (now (received .exit) ≡ table 16 (λ j. getD (now (received .entry)) j 0 + getD (now (row .entry)) j 0)) ⌝ }
+// The total of a row.
+fn row_total(row: &[u32]) -> u64
+    requires { ⌜ length (now row) ≡ 16 ⌝ }
+    ensures { λ r. ⌜ (r ≡ sum 16 (λ j. getD (now (row .entry)) j 0)) × (r ≤ 68719476720) ⌝ }
 {
     let mut total: u64 = 0;
     let mut j: usize = 0;
     while j < 16 {
-        let x = wide(row[j]);
-        received[j] = received[j] + x;
-        total += x;
+        total += wide(row[j]);
         j += 1;
     }
     total
+}
+
+// Each cell of a row added to what its taker received.
+fn add_row(row: &[u32], sums: &mut [u64])
+    requires { ⌜ (length (now row) ≡ 16) × Sums 18446744069414584320 (now sums) ⌝ }
+    ensures { λ r. ⌜ now (sums .exit) ≡ table 16 (λ j. getD (now (sums .entry)) j 0 + getD (now (row .entry)) j 0) ⌝ }
+{
+    let mut j: usize = 0;
+    while j < 16 {
+        sums[j] = sums[j] + wide(row[j]);
+        j += 1;
+    }
+}
+
+// Sums in the place of others.
+fn put_sums(received: &mut [u64], sums: &[u64])
+    requires { ⌜ (length (now received) ≡ 16) × (length (now sums) ≡ 16) ⌝ }
+    ensures { λ r. ⌜ now (received .exit) ≡ now (sums .entry) ⌝ }
+{
+    let mut j: usize = 0;
+    while j < 16 {
+        received[j] = sums[j];
+        j += 1;
+    }
 }
 
 // What is wrong with a row: what its giver gave itself, and a total that is below its count or above 16,000 times that.
