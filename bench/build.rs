@@ -6,10 +6,22 @@ use std::process::Command;
 
 const FLAGS: [&str; 6] = ["-O3", "-std=c11", "-fPIE", "-Wall", "-Wextra", "-Werror"];
 
-/// Each is compiled to an object of its own, so that no call of one is inlined into another.
-const SOURCES: [&str; 3] = ["plain", "store", "core"];
+/// Each source, with the flag that it is compiled with besides, to an object of its own, so that no call of one is inlined into another.
+const OBJECTS: [(&str, &str, Option<&str>); 5] = [
+    ("plain", "plain.c", None),
+    ("store", "store.c", None),
+    ("core", "core.c", None),
+    ("value", "value.c", None),
+    ("valued", "core.c", Some("-DBY_VALUE")),
+];
 
-const HEADERS: [&str; 4] = ["plain.h", "read.h", "store.h", "../include/tovridsa.h"];
+const HEADERS: [&str; 5] = [
+    "plain.h",
+    "read.h",
+    "store.h",
+    "value.h",
+    "../include/tovridsa.h",
+];
 
 fn main() {
     for header in HEADERS {
@@ -25,13 +37,13 @@ fn main() {
 
     let mut packed = Command::new(&ar);
     packed.arg("crs").arg(&archive);
-    for name in SOURCES {
-        let source = format!("{name}.c");
+    for (name, source, flag) in OBJECTS {
         let object = Path::new(&out).join(format!("{name}.o"));
         println!("cargo:rerun-if-changed={source}");
         run(Command::new(&cc)
             .args(FLAGS)
-            .args(["-c", &source, "-o"])
+            .args(flag)
+            .args(["-c", source, "-o"])
             .arg(&object));
         packed.arg(object);
     }

@@ -354,16 +354,18 @@ fn call_by<S: Store>(store: S, scene: &Scene, call: Call) -> Subject {
 
 fn records(scene: fn() -> Scene) -> Vec<Case> {
     let stage = Stage::open(native::PLAIN, &scene());
-    let case = |name: &str, call: Call, core| Case {
+    let beside = |name: &str, call: Call, core, plain| Case {
         name: format!("{name}, {}", scene().name),
         group: Group::Record,
         bytes: stage.bytes(call),
         by: Box::new(move |i| match i {
             0 => call_by(core, &scene(), call),
             1 => call_by(Model, &scene(), call),
-            _ => call_by(native::PLAIN, &scene(), call),
+            _ => call_by(plain, &scene(), call),
         }),
     };
+    let case = |name: &str, call: Call, core| beside(name, call, core, native::PLAIN);
+    let valued = |name: &str, call: Call| beside(name, call, native::CORE, native::VALUE);
     vec![
         case("serve", Call::Serve, native::CORE),
         case("serve, newer rows", Call::ServeNewer, native::CORE),
@@ -375,6 +377,12 @@ fn records(scene: fn() -> Scene) -> Vec<Case> {
         case("transfer", Call::Transfer, native::CORE),
         case("begin", Call::Begin, native::CORE),
         case("result", Call::Result, native::CORE),
+        valued("serve, C by value", Call::Serve),
+        valued("serve, newer rows, C by value", Call::ServeNewer),
+        valued("serve, clash, C by value", Call::ServeClash),
+        valued("hear, C by value", Call::Hear),
+        valued("transfer, C by value", Call::Transfer),
+        valued("begin, C by value", Call::Begin),
     ]
 }
 
@@ -405,20 +413,24 @@ fn operation_by<S: Store>(store: S, scene: &Scene, write: bool) -> Subject {
 }
 
 fn operations(scene: fn() -> Scene) -> Vec<Case> {
-    let case = |name: &str, write, core| Case {
+    let case = |name: &str, write, core, plain| Case {
         name: format!("{name}, {}", scene().name),
         group: Group::Operation,
         bytes: 0,
         by: Box::new(move |i| match i {
             0 => operation_by(core, &scene(), write),
             1 => operation_by(Model, &scene(), write),
-            _ => operation_by(native::PLAIN, &scene(), write),
+            _ => operation_by(plain, &scene(), write),
         }),
     };
+    let (core, lent) = (native::CORE, native::LENT);
+    let (plain, value) = (native::PLAIN, native::VALUE);
     vec![
-        case("write", true, native::CORE),
-        case("write, hear on a lent record", true, native::LENT),
-        case("read", false, native::CORE),
-        case("read, hear on a lent record", false, native::LENT),
+        case("write", true, core, plain),
+        case("write, hear on a lent record", true, lent, plain),
+        case("read", false, core, plain),
+        case("read, hear on a lent record", false, lent, plain),
+        case("write, C by value", true, core, value),
+        case("read, C by value", false, core, value),
     ]
 }

@@ -1,4 +1,5 @@
-//! The proved library as a C host uses it (core.c), and the plain C (store.c): two rows of functions with the same signatures, on the same records.
+//! The proved library as a C host uses it (core.c), the plain C (store.c), and the plain C by value (value.c): rows of functions with the same signatures,
+//! on the same records.
 
 use crate::records::{untold, Desk, ResultAnswer, Server};
 use crate::store::Store;
@@ -104,7 +105,23 @@ row!(
     core_drop
 );
 
-// The same, but hear on a record that it is lent.
+// The plain C called as the library is, every record by value.
+row!(
+    VALUE,
+    value_open_server,
+    value_transfer,
+    value_share,
+    value_serve,
+    value_open_desk,
+    value_begin_read,
+    value_begin_write,
+    value_ask,
+    value_hear,
+    value_result,
+    value_drop
+);
+
+// The library, but hear on a record that it is lent.
 row!(
     LENT,
     core_open_server,

@@ -3,7 +3,7 @@
 //! same. Records that were damaged, which the model cannot have, are given to the C and the library.
 
 use bench::machine::{Model, ModelDesk, ModelServer};
-use bench::native::{Native, CORE, LENT, PLAIN};
+use bench::native::{Native, CORE, LENT, PLAIN, VALUE};
 use bench::records::{Desk, Plain, Replica, Server};
 use bench::store::Store;
 use model::machine::record::{desk_line, server_line};
@@ -376,7 +376,8 @@ impl Trio {
         );
     }
 
-    /// Copies of a server's and a desk's record are damaged, and each call is made on them by the library and by the C. How many records were refused.
+    /// Copies of a server's and a desk's record are damaged, and each call is made on them by the library and by the C, in place and by value. How many
+    /// records were refused.
     fn damaged(&self, random: &mut Random, words: &str) -> u64 {
         let i = random.index(self.servers.len());
         let mut server = self.servers[i].core;
@@ -393,6 +394,10 @@ impl Trio {
         };
         let core = on_server(CORE);
         assert!(core == on_server(PLAIN), "{words}: a damaged server");
+        assert!(
+            core == on_server(VALUE),
+            "{words}: a damaged server by value"
+        );
 
         let i = random.index(self.desks.len());
         let mut desk = self.desks[i].core;
@@ -401,7 +406,7 @@ impl Trio {
         u64::from(core.2.answer == -1_000_001) + u64::from(dropped == -1_000_001)
     }
 
-    /// Each call on a record that stands for a desk, by the library, on a record that is lent, and by the C. What drop answers.
+    /// Each call on a record that stands for a desk, by the library, on a record that is lent, and by the C, in place and by value. What drop answers.
     fn on_desk(&self, random: &mut Random, i: usize, desk: &Desk, words: &str) -> i64 {
         let line = desk_line(self.config, &self.desks[i].model.desk);
         let message = self.message(random, Party::Desk, i as u64 + 1, &line);
@@ -417,6 +422,10 @@ impl Trio {
         };
         let of_desk = on_desk(CORE);
         assert!(of_desk == on_desk(PLAIN), "{words}: a damaged desk");
+        assert!(
+            of_desk == on_desk(VALUE),
+            "{words}: a damaged desk by value"
+        );
         assert!(of_desk == on_desk(LENT), "{words}: a damaged lent desk");
         of_desk.0[2]
     }

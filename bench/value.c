@@ -1,0 +1,91 @@
+/* The plain C by value: a record is copied into the answer, and changed there in place. */
+#include "value.h"
+#include "store.h"
+
+tovridsa_server_answer by_value_open_server(uint64_t n, uint64_t f, uint64_t number)
+{
+    tovridsa_server_answer opened;
+
+    opened.answer = plain_open_server(&opened.server, n, f, number);
+    return opened;
+}
+
+tovridsa_server_answer by_value_transfer(tovridsa_server server, uint64_t taker, uint64_t amount)
+{
+    tovridsa_server_answer given;
+
+    given.server = server;
+    given.answer = plain_transfer(&given.server, taker, amount);
+    return given;
+}
+
+int64_t by_value_share(tovridsa_server server, uint8_t *out, size_t len, size_t at)
+{
+    return plain_share(&server, out, len, at);
+}
+
+tovridsa_serve_answer by_value_serve(tovridsa_server server, const uint8_t *msg, size_t msg_len, uint8_t *out, size_t out_len, size_t at)
+{
+    tovridsa_serve_answer served;
+
+    served.server = server;
+    served.answer = plain_serve(&served.server, msg, msg_len, out, out_len, at, &served.end);
+    return served;
+}
+
+tovridsa_desk_answer by_value_open_desk(uint64_t n, uint64_t f, uint64_t number)
+{
+    tovridsa_desk_answer opened;
+
+    opened.answer = plain_open_desk(&opened.desk, n, f, number);
+    return opened;
+}
+
+tovridsa_desk_answer by_value_begin_read(tovridsa_desk desk, uint32_t note)
+{
+    tovridsa_desk_answer begun;
+
+    begun.desk = desk;
+    begun.answer = plain_begin_read(&begun.desk, note);
+    return begun;
+}
+
+tovridsa_desk_answer by_value_begin_write(tovridsa_desk desk, uint32_t note, const uint8_t *value, size_t len)
+{
+    tovridsa_desk_answer begun;
+
+    begun.desk = desk;
+    begun.answer = plain_begin_write(&begun.desk, note, value, len);
+    return begun;
+}
+
+int64_t by_value_ask(tovridsa_desk desk, uint64_t server, uint8_t *out, size_t len, size_t at)
+{
+    return plain_ask(&desk, server, out, len, at);
+}
+
+tovridsa_desk_answer by_value_hear(tovridsa_desk desk, const uint8_t *msg, size_t len)
+{
+    tovridsa_desk_answer heard;
+
+    heard.desk = desk;
+    heard.answer = plain_hear(&heard.desk, msg, len);
+    return heard;
+}
+
+tovridsa_result_answer by_value_result(tovridsa_desk desk)
+{
+    tovridsa_result_answer told;
+
+    plain_result(&desk, &told);
+    return told;
+}
+
+tovridsa_desk_answer by_value_drop(tovridsa_desk desk)
+{
+    tovridsa_desk_answer dropped;
+
+    dropped.desk = desk;
+    dropped.answer = plain_drop(&dropped.desk);
+    return dropped;
+}
