@@ -11,6 +11,7 @@ use super::record::sound_in;
 use config::Config;
 use config::Refusal;
 use config::Verdict;
+use ledger::put_counts;
 use ledger::weigh_lent;
 use message::Envelope;
 use message::REPLY;
@@ -257,11 +258,4 @@ pub(crate) fn unheard(
         round,
         operation,
     }
-}
-
-// An array in the place of another.
-fn put_counts(counts: &mut [u16; 16], next: [u16; 16])
-    ensures { λ r. ⌜ now (counts .exit) ≡ next ⌝ }
-{
-    *counts = next;
 }

@@ -3,12 +3,12 @@
 use super::code::of_hearing;
 use super::code::of_number;
 use super::code::of_verdict;
-use super::servers::put_counts;
 use desk::Desk;
 use desk::DeskAnswer;
 use desk::Turned;
 use desk::hear_in;
 use desk::hear_lent;
+use ledger::put_counts;
 use replica::Register;
 ghost use mathlib.Core.Path.{_≡_};
 ghost use mathlib.Core.List.{[]};

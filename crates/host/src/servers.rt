@@ -3,6 +3,7 @@ use super::code::of_done;
 use super::code::of_number;
 use super::code::of_verdict;
 use super::code::place;
+use ledger::put_counts;
 use server::Server;
 use server::ServerAnswer;
 use server::serve_in;
@@ -102,11 +103,4 @@ fn of_server(answer: ServerAnswer) -> AnsweredServer
         answer: of_verdict(verdict),
         server,
     }
-}
-
-// An array in the place of another.
-pub(crate) fn put_counts(counts: &mut [u16; 16], next: [u16; 16])
-    ensures { λ r. ⌜ now (counts .exit) ≡ next ⌝ }
-{
-    *counts = next;
 }

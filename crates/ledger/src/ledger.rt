@@ -50,6 +50,13 @@ impl Ledger {
     }
 }
 
+// Counts in the place of those that are lent. A record's counts and cells cannot be lent to be changed at once: its counts go by a variable, and are put back.
+pub fn put_counts(counts: &mut [u16; 16], next: [u16; 16])
+    ensures { λ r. ⌜ now (counts .exit) ≡ next ⌝ }
+{
+    *counts = next;
+}
+
 // The sum of 16 of the 256 cells from `from` on, `step` apart: a row (step 1) or a column (step 16).
 pub(crate) fn line(cells: &[u32], from: usize, step: usize) -> u64
     requires { ⌜ (length (now cells) ≡ 256) × (from + 15 * step < 256) ⌝ }

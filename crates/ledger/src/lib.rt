@@ -16,6 +16,7 @@ pub use join::compare_lent;
 pub use join::take_lent;
 pub use ledger::Changed;
 pub use ledger::Ledger;
+pub use ledger::put_counts;
 pub use map::count_named;
 pub use map::within;
 pub use sums::Weighed;

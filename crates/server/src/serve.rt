@@ -4,6 +4,7 @@ use config::Config;
 use config::Number;
 use config::Refusal;
 use config::Verdict;
+use ledger::put_counts;
 use ledger::take_lent;
 use message::Envelope;
 use message::REPLY;
@@ -370,11 +371,4 @@ fn knows_more(told: &[u16; 16], made: &[u16; 16], server: u64) -> bool
 {
     let i = server as usize;
     made[i] < told[i]
-}
-
-// An array in the place of another.
-fn put_counts(counts: &mut [u16; 16], next: [u16; 16])
-    ensures { λ r. ⌜ now (counts .exit) ≡ next ⌝ }
-{
-    *counts = next;
 }
