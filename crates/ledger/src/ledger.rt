@@ -4,7 +4,7 @@ use config::Verdict;
 ghost use mathlib.Core.Path.{_≡_};
 ghost use Prim.Native.Nat.{ℕ, _+_, _*_, _<_, _≤_};
 ghost use lib.ListN.{length, getD};
-ghost use Rattle.ledger.specs.Ledgers.{freshLedger, ledgerOf, lineOf, refused as refusedOf};
+ghost use Rattle.ledger.specs.Ledgers.{freshLedger, lineOf, refused as refusedOf};
 
 // The transfers known to a party (paper 01: sheet). counts[i] is the number of transfers that server i made, and cells[16 i + j] what it gave server j in all.
 #[repr(C)]
@@ -28,15 +28,6 @@ impl Ledger {
             counts: [0; 16],
             cells: [0; 256],
         }
-    }
-
-    // The ledger with counts and cells that are lent.
-    pub fn of<'a>(counts: &'a [u16; 16], cells: &'a [u32; 256]) -> Ledger
-        ensures { λ r. ⌜ r ≡ ledgerOf (now (counts .entry)) (now (cells .entry)) ⌝ }
-    {
-        let counts = *counts;
-        let cells = *cells;
-        Ledger { counts, cells }
     }
 
     // A refusal, with the ledger as it was.
