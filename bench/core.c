@@ -1,19 +1,17 @@
 /* A library as a C host uses it whose records go into a call by value: what comes back takes a record's place. It is compiled twice, over the proved
  * library, and with BY_VALUE over the plain C behind the same signatures (value.c). */
-#include "store.h"
-
 #ifdef BY_VALUE
 #include "value.h"
 #define HOST(call) value_##call
-#define LIBRARY(call) by_value_##call
 #else
 #define HOST(call) core_##call
-#define LIBRARY(call) tovridsa_##call
 #endif
+
+#include "store.h"
 
 int64_t HOST(open_server)(tovridsa_server *server, uint64_t n, uint64_t f, uint64_t number)
 {
-    tovridsa_server_answer opened = LIBRARY(open_server)(n, f, number);
+    tovridsa_server_answer opened = tovridsa_open_server(n, f, number);
 
     *server = opened.server;
     return opened.answer;
@@ -21,7 +19,7 @@ int64_t HOST(open_server)(tovridsa_server *server, uint64_t n, uint64_t f, uint6
 
 int64_t HOST(transfer)(tovridsa_server *server, uint64_t taker, uint64_t amount)
 {
-    tovridsa_server_answer given = LIBRARY(transfer)(*server, taker, amount);
+    tovridsa_server_answer given = tovridsa_transfer(*server, taker, amount);
 
     *server = given.server;
     return given.answer;
@@ -29,12 +27,12 @@ int64_t HOST(transfer)(tovridsa_server *server, uint64_t taker, uint64_t amount)
 
 int64_t HOST(share)(const tovridsa_server *server, uint8_t *out, size_t len, size_t at)
 {
-    return LIBRARY(share)(*server, out, len, at);
+    return tovridsa_share(*server, out, len, at);
 }
 
 int64_t HOST(serve)(tovridsa_server *server, const uint8_t *msg, size_t msg_len, uint8_t *out, size_t out_len, size_t at, uint64_t *end)
 {
-    tovridsa_serve_answer served = LIBRARY(serve)(*server, msg, msg_len, out, out_len, at);
+    tovridsa_serve_answer served = tovridsa_serve(*server, msg, msg_len, out, out_len, at);
 
     *server = served.server;
     *end = served.end;
@@ -43,7 +41,7 @@ int64_t HOST(serve)(tovridsa_server *server, const uint8_t *msg, size_t msg_len,
 
 int64_t HOST(open_desk)(tovridsa_desk *desk, uint64_t n, uint64_t f, uint64_t number)
 {
-    tovridsa_desk_answer opened = LIBRARY(open_desk)(n, f, number);
+    tovridsa_desk_answer opened = tovridsa_open_desk(n, f, number);
 
     *desk = opened.desk;
     return opened.answer;
@@ -51,7 +49,7 @@ int64_t HOST(open_desk)(tovridsa_desk *desk, uint64_t n, uint64_t f, uint64_t nu
 
 int64_t HOST(begin_read)(tovridsa_desk *desk, uint32_t note)
 {
-    tovridsa_desk_answer begun = LIBRARY(begin_read)(*desk, note);
+    tovridsa_desk_answer begun = tovridsa_begin_read(*desk, note);
 
     *desk = begun.desk;
     return begun.answer;
@@ -59,7 +57,7 @@ int64_t HOST(begin_read)(tovridsa_desk *desk, uint32_t note)
 
 int64_t HOST(begin_write)(tovridsa_desk *desk, uint32_t note, const uint8_t *value, size_t len)
 {
-    tovridsa_desk_answer begun = LIBRARY(begin_write)(*desk, note, value, len);
+    tovridsa_desk_answer begun = tovridsa_begin_write(*desk, note, value, len);
 
     *desk = begun.desk;
     return begun.answer;
@@ -67,12 +65,12 @@ int64_t HOST(begin_write)(tovridsa_desk *desk, uint32_t note, const uint8_t *val
 
 int64_t HOST(ask)(const tovridsa_desk *desk, uint64_t server, uint8_t *out, size_t len, size_t at)
 {
-    return LIBRARY(ask)(*desk, server, out, len, at);
+    return tovridsa_ask(*desk, server, out, len, at);
 }
 
 int64_t HOST(hear)(tovridsa_desk *desk, const uint8_t *msg, size_t len)
 {
-    tovridsa_desk_answer heard = LIBRARY(hear)(*desk, msg, len);
+    tovridsa_desk_answer heard = tovridsa_hear(*desk, msg, len);
 
     *desk = heard.desk;
     return heard.answer;
@@ -87,13 +85,13 @@ int64_t core_hear_lent(tovridsa_desk *desk, const uint8_t *msg, size_t len)
 
 int64_t HOST(result)(const tovridsa_desk *desk, tovridsa_result_answer *told)
 {
-    *told = LIBRARY(result)(*desk);
+    *told = tovridsa_result(*desk);
     return told->answer;
 }
 
 int64_t HOST(drop)(tovridsa_desk *desk)
 {
-    tovridsa_desk_answer dropped = LIBRARY(drop)(*desk);
+    tovridsa_desk_answer dropped = tovridsa_drop(*desk);
 
     *desk = dropped.desk;
     return dropped.answer;

@@ -9,44 +9,24 @@
 
 #include "../include/tovridsa.h"
 
-int64_t plain_open_server(tovridsa_server *server, uint64_t n, uint64_t f, uint64_t number);
-int64_t plain_transfer(tovridsa_server *server, uint64_t taker, uint64_t amount);
-int64_t plain_share(const tovridsa_server *server, uint8_t *out, size_t len, size_t at);
-int64_t plain_serve(tovridsa_server *server, const uint8_t *msg, size_t msg_len, uint8_t *out, size_t out_len, size_t at, uint64_t *end);
+/* The calls, each with the name of who makes it before its own. */
+#define STORE(by) \
+    int64_t by##_open_server(tovridsa_server *server, uint64_t n, uint64_t f, uint64_t number); \
+    int64_t by##_transfer(tovridsa_server *server, uint64_t taker, uint64_t amount); \
+    int64_t by##_share(const tovridsa_server *server, uint8_t *out, size_t len, size_t at); \
+    int64_t by##_serve(tovridsa_server *server, const uint8_t *msg, size_t msg_len, uint8_t *out, size_t out_len, size_t at, uint64_t *end); \
+    int64_t by##_open_desk(tovridsa_desk *desk, uint64_t n, uint64_t f, uint64_t number); \
+    int64_t by##_begin_read(tovridsa_desk *desk, uint32_t note); \
+    int64_t by##_begin_write(tovridsa_desk *desk, uint32_t note, const uint8_t *value, size_t len); \
+    int64_t by##_ask(const tovridsa_desk *desk, uint64_t server, uint8_t *out, size_t len, size_t at); \
+    int64_t by##_hear(tovridsa_desk *desk, const uint8_t *msg, size_t len); \
+    int64_t by##_result(const tovridsa_desk *desk, tovridsa_result_answer *told); \
+    int64_t by##_drop(tovridsa_desk *desk)
 
-int64_t plain_open_desk(tovridsa_desk *desk, uint64_t n, uint64_t f, uint64_t number);
-int64_t plain_begin_read(tovridsa_desk *desk, uint32_t note);
-int64_t plain_begin_write(tovridsa_desk *desk, uint32_t note, const uint8_t *value, size_t len);
-int64_t plain_ask(const tovridsa_desk *desk, uint64_t server, uint8_t *out, size_t len, size_t at);
-int64_t plain_hear(tovridsa_desk *desk, const uint8_t *msg, size_t len);
-int64_t plain_result(const tovridsa_desk *desk, tovridsa_result_answer *told);
-int64_t plain_drop(tovridsa_desk *desk);
+STORE(plain);
+STORE(core);
+STORE(value);
 
-int64_t core_open_server(tovridsa_server *server, uint64_t n, uint64_t f, uint64_t number);
-int64_t core_transfer(tovridsa_server *server, uint64_t taker, uint64_t amount);
-int64_t core_share(const tovridsa_server *server, uint8_t *out, size_t len, size_t at);
-int64_t core_serve(tovridsa_server *server, const uint8_t *msg, size_t msg_len, uint8_t *out, size_t out_len, size_t at, uint64_t *end);
-
-int64_t core_open_desk(tovridsa_desk *desk, uint64_t n, uint64_t f, uint64_t number);
-int64_t core_begin_read(tovridsa_desk *desk, uint32_t note);
-int64_t core_begin_write(tovridsa_desk *desk, uint32_t note, const uint8_t *value, size_t len);
-int64_t core_ask(const tovridsa_desk *desk, uint64_t server, uint8_t *out, size_t len, size_t at);
-int64_t core_hear(tovridsa_desk *desk, const uint8_t *msg, size_t len);
 int64_t core_hear_lent(tovridsa_desk *desk, const uint8_t *msg, size_t len);
-int64_t core_result(const tovridsa_desk *desk, tovridsa_result_answer *told);
-int64_t core_drop(tovridsa_desk *desk);
-
-int64_t value_open_server(tovridsa_server *server, uint64_t n, uint64_t f, uint64_t number);
-int64_t value_transfer(tovridsa_server *server, uint64_t taker, uint64_t amount);
-int64_t value_share(const tovridsa_server *server, uint8_t *out, size_t len, size_t at);
-int64_t value_serve(tovridsa_server *server, const uint8_t *msg, size_t msg_len, uint8_t *out, size_t out_len, size_t at, uint64_t *end);
-
-int64_t value_open_desk(tovridsa_desk *desk, uint64_t n, uint64_t f, uint64_t number);
-int64_t value_begin_read(tovridsa_desk *desk, uint32_t note);
-int64_t value_begin_write(tovridsa_desk *desk, uint32_t note, const uint8_t *value, size_t len);
-int64_t value_ask(const tovridsa_desk *desk, uint64_t server, uint8_t *out, size_t len, size_t at);
-int64_t value_hear(tovridsa_desk *desk, const uint8_t *msg, size_t len);
-int64_t value_result(const tovridsa_desk *desk, tovridsa_result_answer *told);
-int64_t value_drop(tovridsa_desk *desk);
 
 #endif

@@ -1,8 +1,8 @@
-/* The plain C by value: a record is copied into the answer, and changed there in place. */
+/* The plain C by value, whose functions have other names than the library's (value.h): a record is copied into the answer, and changed there in place. */
 #include "value.h"
 #include "store.h"
 
-tovridsa_server_answer by_value_open_server(uint64_t n, uint64_t f, uint64_t number)
+tovridsa_server_answer tovridsa_open_server(uint64_t n, uint64_t f, uint64_t number)
 {
     tovridsa_server_answer opened;
 
@@ -10,7 +10,7 @@ tovridsa_server_answer by_value_open_server(uint64_t n, uint64_t f, uint64_t num
     return opened;
 }
 
-tovridsa_server_answer by_value_transfer(tovridsa_server server, uint64_t taker, uint64_t amount)
+tovridsa_server_answer tovridsa_transfer(tovridsa_server server, uint64_t taker, uint64_t amount)
 {
     tovridsa_server_answer given;
 
@@ -19,12 +19,12 @@ tovridsa_server_answer by_value_transfer(tovridsa_server server, uint64_t taker,
     return given;
 }
 
-int64_t by_value_share(tovridsa_server server, uint8_t *out, size_t len, size_t at)
+int64_t tovridsa_share(tovridsa_server server, uint8_t *out, size_t len, size_t at)
 {
     return plain_share(&server, out, len, at);
 }
 
-tovridsa_serve_answer by_value_serve(tovridsa_server server, const uint8_t *msg, size_t msg_len, uint8_t *out, size_t out_len, size_t at)
+tovridsa_serve_answer tovridsa_serve(tovridsa_server server, const uint8_t *msg, size_t msg_len, uint8_t *out, size_t out_len, size_t at)
 {
     tovridsa_serve_answer served;
 
@@ -33,7 +33,7 @@ tovridsa_serve_answer by_value_serve(tovridsa_server server, const uint8_t *msg,
     return served;
 }
 
-tovridsa_desk_answer by_value_open_desk(uint64_t n, uint64_t f, uint64_t number)
+tovridsa_desk_answer tovridsa_open_desk(uint64_t n, uint64_t f, uint64_t number)
 {
     tovridsa_desk_answer opened;
 
@@ -41,7 +41,7 @@ tovridsa_desk_answer by_value_open_desk(uint64_t n, uint64_t f, uint64_t number)
     return opened;
 }
 
-tovridsa_desk_answer by_value_begin_read(tovridsa_desk desk, uint32_t note)
+tovridsa_desk_answer tovridsa_begin_read(tovridsa_desk desk, uint32_t note)
 {
     tovridsa_desk_answer begun;
 
@@ -50,7 +50,7 @@ tovridsa_desk_answer by_value_begin_read(tovridsa_desk desk, uint32_t note)
     return begun;
 }
 
-tovridsa_desk_answer by_value_begin_write(tovridsa_desk desk, uint32_t note, const uint8_t *value, size_t len)
+tovridsa_desk_answer tovridsa_begin_write(tovridsa_desk desk, uint32_t note, const uint8_t *value, size_t len)
 {
     tovridsa_desk_answer begun;
 
@@ -59,12 +59,12 @@ tovridsa_desk_answer by_value_begin_write(tovridsa_desk desk, uint32_t note, con
     return begun;
 }
 
-int64_t by_value_ask(tovridsa_desk desk, uint64_t server, uint8_t *out, size_t len, size_t at)
+int64_t tovridsa_ask(tovridsa_desk desk, uint64_t server, uint8_t *out, size_t len, size_t at)
 {
     return plain_ask(&desk, server, out, len, at);
 }
 
-tovridsa_desk_answer by_value_hear(tovridsa_desk desk, const uint8_t *msg, size_t len)
+tovridsa_desk_answer tovridsa_hear(tovridsa_desk desk, const uint8_t *msg, size_t len)
 {
     tovridsa_desk_answer heard;
 
@@ -73,7 +73,7 @@ tovridsa_desk_answer by_value_hear(tovridsa_desk desk, const uint8_t *msg, size_
     return heard;
 }
 
-tovridsa_result_answer by_value_result(tovridsa_desk desk)
+tovridsa_result_answer tovridsa_result(tovridsa_desk desk)
 {
     tovridsa_result_answer told;
 
@@ -81,7 +81,7 @@ tovridsa_result_answer by_value_result(tovridsa_desk desk)
     return told;
 }
 
-tovridsa_desk_answer by_value_drop(tovridsa_desk desk)
+tovridsa_desk_answer tovridsa_drop(tovridsa_desk desk)
 {
     tovridsa_desk_answer dropped;
 

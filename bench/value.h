@@ -1,21 +1,20 @@
-/* The plain C of store.c behind the signatures of include/tovridsa.h: a record goes in by value and comes back by value. What this costs in time, it costs
- * any library that is called so. */
+/* The plain C of store.c behind the library's own declarations: a record goes in by value and comes back by value. What this costs in time, it costs any
+ * library that is called so. In a file that includes this first, the functions of include/tovridsa.h are those of value.c. */
 #ifndef VALUE_H
 #define VALUE_H
 
+#define tovridsa_open_server by_value_open_server
+#define tovridsa_transfer by_value_transfer
+#define tovridsa_share by_value_share
+#define tovridsa_serve by_value_serve
+#define tovridsa_open_desk by_value_open_desk
+#define tovridsa_begin_read by_value_begin_read
+#define tovridsa_begin_write by_value_begin_write
+#define tovridsa_ask by_value_ask
+#define tovridsa_hear by_value_hear
+#define tovridsa_result by_value_result
+#define tovridsa_drop by_value_drop
+
 #include "../include/tovridsa.h"
-
-tovridsa_server_answer by_value_open_server(uint64_t n, uint64_t f, uint64_t number);
-tovridsa_server_answer by_value_transfer(tovridsa_server server, uint64_t taker, uint64_t amount);
-int64_t by_value_share(tovridsa_server server, uint8_t *out, size_t len, size_t at);
-tovridsa_serve_answer by_value_serve(tovridsa_server server, const uint8_t *msg, size_t msg_len, uint8_t *out, size_t out_len, size_t at);
-
-tovridsa_desk_answer by_value_open_desk(uint64_t n, uint64_t f, uint64_t number);
-tovridsa_desk_answer by_value_begin_read(tovridsa_desk desk, uint32_t note);
-tovridsa_desk_answer by_value_begin_write(tovridsa_desk desk, uint32_t note, const uint8_t *value, size_t len);
-int64_t by_value_ask(tovridsa_desk desk, uint64_t server, uint8_t *out, size_t len, size_t at);
-tovridsa_desk_answer by_value_hear(tovridsa_desk desk, const uint8_t *msg, size_t len);
-tovridsa_result_answer by_value_result(tovridsa_desk desk);
-tovridsa_desk_answer by_value_drop(tovridsa_desk desk);
 
 #endif
