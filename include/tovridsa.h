@@ -14,12 +14,23 @@
  * the time of the call; nobody else may write those bytes during it, nor read those that the call may write; and no two of the buffers and records
  * that one call is lent may overlap where it may write one of them. With the length 0 nothing is read or written, and the pointer may be null: that is
  * how an empty message, value or block is passed. A pointer to a record is aligned for it and not null. The functions keep no pointer, use no memory
- * but the stack (some 24 KiB), and may be called from several threads at once, on different records.
+ * but the stack (24 KiB are enough), and may be called from several threads at once, on different records.
  *
  * Records are plain data: copy them, compare them with memcmp (they have no padding), keep them in a file. In a record that was opened and has been
  * through calls only, what means nothing is 0: the bytes after a value's own, and what an operation does not use. Only what the last call on a record
  * handed back or left there may be given to the next one: a party that goes on with an older copy of its record is another party under its name, of
  * which nothing is proved. For the same reason every server has one record, and every desk number.
+ *
+ * What a host must see to, since no call can (docs/HOST.md says more):
+ *
+ *   - bytes arrive as they were sent, in this cluster and block: put each message into a frame with both names and a checksum, better a MAC. The
+ *     message checks find no altered bit, and one that is taken spreads and cannot be taken back;
+ *   - a record is durable before any byte that shows it leaves, or a result is told. Until then a call may be undone;
+ *   - a server whose record is lost or old never comes back: it counts against f for good. A desk then takes a number never used before;
+ *   - among honest parties TORN, BAD_MAP, ODD_FIELD, LIGHT and CLASH never occur. CLASH is an alarm: two parties hold what cannot both be true;
+ *   - ask all servers in every round, and again as often as you like; that an operation ends nobody can promise. A write that is dropped in phase 2
+ *     may still take effect;
+ *   - one store is one block, a register and no lock: beside it one desk at a time looks, sells and writes, until its write has ended.
  */
 #ifndef TOVRIDSA_H
 #define TOVRIDSA_H
@@ -30,6 +41,12 @@
 #ifdef __cplusplus
 extern "C" {
 #endif
+
+/*
+ * The version of records, functions, answers and message bytes, which is also the number of the format in docs/FORMAT.md. Keep it beside a record in a
+ * file and in the frame of a message, and refuse another one: docs/LANDINGS.md says what each has changed.
+ */
+#define TOVRIDSA_VERSION 1
 
 /* ---- answers */
 
