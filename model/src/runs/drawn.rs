@@ -13,6 +13,11 @@ use crate::random::Random;
 pub fn draw(seed: u64, number: u64, store: &mut dyn Store) -> Run {
     let mut random = Random::of_case(seed, number);
     let pace = Pace::draw(&mut random, number);
+    play(random, pace, store)
+}
+
+/// Plays a run of this pace.
+pub fn play(random: Random, pace: Pace, store: &mut dyn Store) -> Run {
     let (n, f) = (pace.n, pace.f);
     let mut player = Player::new(random, pace, store);
     if player.pace.early {
