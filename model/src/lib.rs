@@ -20,6 +20,9 @@
 //!   made short where it fails (`shrink`). `wrong` has the wrong stores that
 //!   come close.
 //!
+//! `conformance` makes the test files for those who write a server or a desk of
+//! their own.
+//!
 //! To run the comparisons: `cd model && cargo test --release`, after
 //! `rt staticlib host` and `rt check cases`.
 
@@ -42,3 +45,5 @@ pub mod random;
 
 pub mod machine;
 pub mod runs;
+
+pub mod conformance;

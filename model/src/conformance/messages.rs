@@ -1,0 +1,229 @@
+//! Messages by themselves: those that pass, of every kind in every cluster, and
+//! those that are refused, at every place of paper 01's "Checks".
+
+use super::line::{request, share, sheet, Line};
+use super::sums::{self, MOST_IN_ROW};
+use super::SEED;
+use crate::aim::{aimed, Aimed};
+use crate::cases::Case;
+use crate::format::{Kind, Message};
+use crate::lawful;
+use crate::machine::command::Command;
+use crate::machine::parse::parse;
+use crate::place::Place;
+use crate::random::{bad_cluster, Random};
+use crate::runs::pace::pairs;
+use crate::weights::{Config, START};
+use crate::write::write;
+
+/// How long a message is that is drawn; a few are longer.
+const SHORT: usize = 80;
+
+/// How many random cases there are.
+const CASES: usize = 200;
+
+/// How many messages are refused at each place, by one fault and by two.
+const ONE_FAULT: usize = 4;
+const TWO_FAULTS: usize = 2;
+
+pub fn lines() -> Vec<Line> {
+    let random = &mut Random::new(SEED);
+    let mut lines = page();
+    lines.extend(clusters(random));
+    lines.extend(changed());
+    lines.extend(floors());
+    lines.extend(totals());
+    lines.extend(lawful_ones(random));
+    lines.extend(refused_ones(random));
+    lines.extend(longest_ones(random));
+    lines.extend(any());
+    lines
+}
+
+fn line(n: u64, f: u64, bytes: Vec<u8>) -> Line {
+    Command::Message { n, f, bytes }
+}
+
+/// The messages of docs/FORMAT.md.
+fn page() -> Vec<Line> {
+    let page = include_str!("../../../docs/FORMAT.md");
+    let indented = page.lines().filter(|line| line.starts_with("    message "));
+    let parsed = indented.map(|line| parse(line).ok().flatten());
+    parsed.map(|line| line.expect("it can be read")).collect()
+}
+
+/// Clusters out of bounds, whatever the message: near the bounds, and numbers
+/// that come near when they are cut to fewer bits or doubled.
+fn clusters(random: &mut Random) -> Vec<Line> {
+    let far = [1 << 8, 1 << 16, 1 << 32, 1 << 63];
+    let mut bad = vec![
+        (0, 0),
+        (0, u64::MAX),
+        (17, 0),
+        (1, 1),
+        (2, 1),
+        (4, 2),
+        (16, 8),
+    ];
+    bad.extend([(5, u64::MAX), (u64::MAX, 0), (u64::MAX, u64::MAX)]);
+    bad.extend(far.map(|far| (far + 5, 1)));
+    bad.extend(far.map(|far| (5, far + 1)));
+    bad.extend(far.map(|far| (5, far)));
+    bad.extend((0..16).map(|_| bad_cluster(random)));
+    let mut lines: Vec<Line> = Vec::new();
+    for (n, f) in bad {
+        lines.push(line(n, f, write(&share(0))));
+    }
+    // 1 comes before everything else.
+    for bytes in [vec![], vec![0], vec![0xFF; 2], write(&request(4, 1, 1))] {
+        lines.push(line(17, 3, bytes.clone()));
+        lines.push(line(5, 3, bytes.clone()));
+        lines.push(line(5, 2, bytes));
+    }
+    lines
+}
+
+/// The request of the page that has every field: cut at each place, and with the
+/// lowest or the highest bit of each byte turned.
+fn changed() -> Vec<Line> {
+    let long = page().into_iter().max_by_key(|line| match line {
+        Command::Message { bytes, .. } => bytes.len(),
+        _ => 0,
+    });
+    let Some(Command::Message { n, f, bytes }) = long else {
+        panic!("the page has messages");
+    };
+    let cut = (0..bytes.len()).map(|end| bytes[..end].to_vec());
+    let turned = (0..2 * bytes.len()).map(|place| {
+        let mut bytes = bytes.clone();
+        bytes[place / 2] ^= if place % 2 == 0 { 0x01 } else { 0x80 };
+        bytes
+    });
+    cut.chain(turned).map(|bytes| line(n, f, bytes)).collect()
+}
+
+/// In every cluster a gift of all that a server can spare, and one of 1 more.
+fn floors() -> Vec<Line> {
+    let mut lines = Vec::new();
+    for (n, f) in pairs().into_iter().filter(|(n, _)| *n > 1) {
+        let giver = (f as usize + 1) % n as usize;
+        let taker = n as usize - 1 - giver;
+        let taker = if taker == giver {
+            (giver + 1) % n as usize
+        } else {
+            taker
+        };
+        let spare = Config::level(n, f).spare(START) as u32;
+        for gift in [spare, spare + 1] {
+            let ledger = sheet(&[(giver, 1, &[(taker, gift)])]);
+            let message = Message { ledger, ..share(0) };
+            lines.push(line(n, f, write(&message)));
+        }
+    }
+    lines
+}
+
+/// Rows whose totals are at their least, at their most, and 1 beyond; then sums
+/// that leave 32 bits.
+fn totals() -> Vec<Line> {
+    let counts = [1, 2, 255, 256, 32_768, 65_534, 65_535];
+    let mut lines = Vec::new();
+    for count in counts {
+        let (least, most) = (u32::from(count), 16_000 * u32::from(count));
+        for total in [least - 1, least, most, most + 1] {
+            // Two servers give each other the same, so that no weight moves.
+            let there = [(1, total)];
+            let back = [(0, total)];
+            let ledger = sheet(&[(0, count, &there), (1, count, &back)]);
+            let message = Message { ledger, ..share(1) };
+            lines.push(line(2, 0, write(&message)));
+        }
+    }
+    let most = [(1, MOST_IN_ROW - 3), (2, 1), (3, 1), (4, 1)];
+    let back = [(0, MOST_IN_ROW - 3)];
+    let ledger = sheet(&[(0, 65_535, &most), (1, 65_535, &back)]);
+    lines.push(line(5, 1, write(&Message { ledger, ..share(1) })));
+    for sums::Refused { n, f, ledger } in sums::totals().into_iter().chain(sums::weights()) {
+        lines.push(line(n, f, write(&Message { ledger, ..share(0) })));
+    }
+    lines
+}
+
+/// A message of each kind for every cluster.
+fn lawful_ones(random: &mut Random) -> Vec<Line> {
+    let mut lines = Vec::new();
+    for (n, f) in pairs() {
+        for kind in [Kind::Request, Kind::Reply, Kind::Share] {
+            lines.push(line(n, f, lawful_one(random, Config::level(n, f), kind)));
+        }
+    }
+    lines
+}
+
+fn lawful_one(random: &mut Random, config: Config, kind: Kind) -> Vec<u8> {
+    loop {
+        let mut room = [0; 64];
+        let message = lawful::message(random, config, &mut room);
+        let bytes = write(&message);
+        if message.kind == kind && bytes.len() <= SHORT {
+            return bytes;
+        }
+    }
+}
+
+/// Messages refused at every place, and such that have a second fault.
+fn refused_ones(random: &mut Random) -> Vec<Line> {
+    let places: Vec<Place> = Place::ALL
+        .iter()
+        .copied()
+        .filter(|place| *place != Place::House)
+        .collect();
+    let mut lines = Vec::new();
+    for &place in &places {
+        for _ in 0..ONE_FAULT {
+            lines.push(refused_one(random, place, None));
+        }
+        for _ in 0..TWO_FAULTS {
+            let also = *random.pick(&places);
+            lines.push(refused_one(random, place, Some(also)));
+        }
+    }
+    lines
+}
+
+/// A short one, unless the draws bring none.
+fn refused_one(random: &mut Random, place: Place, also: Option<Place>) -> Line {
+    let mut draws = (0..40).map(|_| aimed(random, place, also));
+    let first = draws.next().expect("there are 40");
+    let short = |drawn: &Aimed| drawn.bytes.len() <= SHORT;
+    let Aimed { n, f, bytes, .. } = match short(&first) {
+        true => first,
+        false => draws.find(short).unwrap_or(first),
+    };
+    line(n, f, bytes)
+}
+
+/// The longest messages of some clusters, and the longest of all cut by a byte
+/// and a byte longer.
+fn longest_ones(random: &mut Random) -> Vec<Line> {
+    let mut lines = Vec::new();
+    for (n, f) in [(1, 0), (2, 0), (5, 1), (9, 4), (16, 7)] {
+        let mut room = [0; 64];
+        let message = lawful::longest(random, Config::level(n, f), &mut room);
+        let bytes = write(&message);
+        if n == 16 {
+            lines.push(line(n, f, bytes[..bytes.len() - 1].to_vec()));
+            lines.push(line(n, f, [&bytes[..], &[0]].concat()));
+        }
+        lines.push(line(n, f, bytes));
+    }
+    lines
+}
+
+/// Cases of the comparison of model and library: lawful, damaged, aimed, noise.
+fn any() -> Vec<Line> {
+    let cases = (0..).map(|number| Case::draw(SEED, number));
+    let short = cases.filter(|case| case.message.len() <= SHORT);
+    let lines = short.map(|case| line(case.n, case.f, case.message));
+    lines.take(CASES).collect()
+}

@@ -1,0 +1,66 @@
+//! What one server answers: before a house and to numbers out of bounds
+//! (`bounds`), to transfers (`gifts`), at the ends of counts, lengths and sums
+//! (`ends`), to messages that join and that clash (`joins`, `tags`, `order`), on
+//! an ordinary day, and, in every cluster, among messages that were forged.
+
+pub mod bounds;
+pub mod ends;
+pub mod gifts;
+pub mod joins;
+pub mod one;
+pub mod order;
+pub mod tags;
+
+use super::drawn::{forged, ordinary, richest, servers};
+use super::line::Line;
+use super::SEED;
+use crate::runs::pace::pairs;
+
+/// The clusters of the ordinary days, and how many bytes each may take.
+const ORDINARY: [(u64, u64); 6] = [(1, 0), (2, 0), (3, 1), (5, 1), (7, 3), (16, 7)];
+const ORDINARY_BYTES: usize = 5_000;
+
+/// Of so many runs the richest section is taken, in so many bytes and so many
+/// more for each server of the cluster.
+const RUNS: usize = 12;
+const BYTES: usize = 2_000;
+const BYTES_MORE: usize = 150;
+
+pub fn lines() -> Vec<Line> {
+    let mut lines = bounds::before_a_house();
+    for pair in ORDINARY {
+        lines.extend(ordinary_day(pair));
+    }
+    lines.extend(bounds::houses());
+    lines.extend(bounds::nobody());
+    lines.extend(joins::rows());
+    lines.extend(joins::unions());
+    lines.extend(tags::tags());
+    lines.extend(order::order());
+    lines.extend(order::rooms());
+    lines.extend(ends::counts());
+    lines.extend(ends::totals());
+    lines.extend(ends::lengths());
+    lines.extend(ends::sums());
+    for (place, pair) in pairs().into_iter().enumerate() {
+        lines.extend(gifts::gifts(place, pair));
+        lines.extend(among_forged(place, pair));
+    }
+    lines
+}
+
+/// A server to which only what was sent comes.
+fn ordinary_day(pair: (u64, u64)) -> Vec<Line> {
+    let place = pairs().iter().position(|other| *other == pair);
+    let place = place.expect("it is a pair");
+    let runs: Vec<_> = (0..RUNS)
+        .map(|again| ordinary(SEED, place, again))
+        .collect();
+    richest(&runs, servers, ORDINARY_BYTES)
+}
+
+/// A server to which forged messages come too.
+fn among_forged(place: usize, (n, _): (u64, u64)) -> Vec<Line> {
+    let runs: Vec<_> = (0..RUNS).map(|again| forged(SEED, place, again)).collect();
+    richest(&runs, servers, BYTES + BYTES_MORE * n as usize)
+}
