@@ -1,6 +1,7 @@
 //! Messages by themselves: those that pass, of every kind in every cluster, and
 //! those that are refused, at every place of paper 01's "Checks".
 
+use super::faults;
 use super::line::{request, share, sheet, Line};
 use super::sums::{self, MOST_IN_ROW};
 use super::SEED;
@@ -35,12 +36,13 @@ pub fn lines() -> Vec<Line> {
     lines.extend(totals());
     lines.extend(lawful_ones(random));
     lines.extend(refused_ones(random));
+    lines.extend(faults::lines(random));
     lines.extend(longest_ones(random));
     lines.extend(any());
     lines
 }
 
-fn line(n: u64, f: u64, bytes: Vec<u8>) -> Line {
+pub fn line(n: u64, f: u64, bytes: Vec<u8>) -> Line {
     Command::Message { n, f, bytes }
 }
 
@@ -192,7 +194,7 @@ fn refused_ones(random: &mut Random) -> Vec<Line> {
 }
 
 /// A short one, unless the draws bring none.
-fn refused_one(random: &mut Random, place: Place, also: Option<Place>) -> Line {
+pub fn refused_one(random: &mut Random, place: Place, also: Option<Place>) -> Line {
     let mut draws = (0..40).map(|_| aimed(random, place, also));
     let first = draws.next().expect("there are 40");
     let short = |drawn: &Aimed| drawn.bytes.len() <= SHORT;

@@ -1,6 +1,6 @@
 //! Test files for somebody who writes a server or a desk of their own: scripts in
 //! the lines of docs/SCRIPTS.md, plainly written, that get one answer each. Here
-//! the lines are made, by hand (`messages`, `server`, `desk`) or taken from runs
+//! the lines are made, by hand (`messages`, `faults`, `server`, `desk`) or taken from runs
 //! that are drawn from a fixed seed (`drawn`); the answers stored beside them are
 //! the proved program's. `cargo run --release --example conformance` writes both.
 //!
@@ -12,6 +12,7 @@
 
 pub mod desk;
 pub mod drawn;
+pub mod faults;
 pub mod kinds;
 pub mod line;
 pub mod messages;

@@ -1,10 +1,11 @@
 //! What one desk answers: to numbers out of bounds (`bounds`), to begin, ask,
-//! result and drop (`calls`), to replies (`replies`, `sheets`), at the end of a
+//! result and drop (`calls`), to replies (`replies`, `sheets`, `kept`), at the end of a
 //! phase (`phases`, `stamps`), on an ordinary day, and, for every number of
 //! servers, among messages that were forged.
 
 pub mod bounds;
 pub mod calls;
+pub mod kept;
 pub mod one;
 pub mod phases;
 pub mod replies;
@@ -50,6 +51,8 @@ pub fn lines() -> Vec<Line> {
     lines.extend(replies::drops());
     lines.extend(sheets::restarts());
     lines.extend(sheets::clashes());
+    lines.extend(kept::kept());
+    lines.extend(kept::many());
     lines.extend(phases::heads());
     lines.extend(phases::levels());
     lines.extend(phases::halves());

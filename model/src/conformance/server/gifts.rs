@@ -4,6 +4,7 @@
 use super::one::One;
 use crate::conformance::line::{share, sheet, Line};
 use crate::format::Message;
+use crate::runs::player::ROOMY;
 use crate::weights::{Config, START};
 
 /// A server of the cluster gives. The place of the cluster chooses which.
@@ -39,5 +40,14 @@ pub fn gifts(place: usize, (n, f): (u64, u64)) -> Vec<Line> {
         one.transfer(taker, 1);
     }
     one.record();
+    one.lines
+}
+
+/// A count beyond 8 bits: 300 transfers, each of 1, and a share that tells them.
+pub fn many() -> Vec<Line> {
+    let mut one = One::new(2, 0, 0);
+    (0..300).for_each(|_| one.transfer(1, 1));
+    one.record();
+    one.share(ROOMY);
     one.lines
 }

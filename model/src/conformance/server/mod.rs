@@ -38,6 +38,7 @@ pub fn lines() -> Vec<Line> {
     lines.extend(tags::tags());
     lines.extend(order::order());
     lines.extend(order::rooms());
+    lines.extend(gifts::many());
     lines.extend(ends::counts());
     lines.extend(ends::totals());
     lines.extend(ends::lengths());

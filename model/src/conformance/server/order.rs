@@ -50,6 +50,11 @@ pub fn order() -> Vec<Line> {
         ledger: sheet(&[(3, 1, &[(4, 375)])]),
         ..request(1, 6, 1)
     });
+    // 5 before 6.
+    one.serve(&Message {
+        ledger: sheet(&[(3, 1, &[(4, 375)])]),
+        ..newer(2, &[0])
+    });
     // 6, and 6 before 13.
     one.serve(&newer(2, &[0]));
     one.serve_in(&newer(2, &[0]), exactly(0));
