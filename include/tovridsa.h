@@ -5,7 +5,8 @@
  * The store does no input or output and has no clock. A host keeps a record for each server and each desk, calls the functions below, and carries the
  * messages that they write from party to party, in whatever way and order it likes: messages may be lost, doubled, delayed and reordered.
  *
- * A call's answer is a signed 64-bit number: for a refusal -1,000,000 less its number, else what the function says, which is never below 0.
+ * A call's answer is a signed 64-bit number: for a refusal -1,000,000 less its number, else what the function says, which is never below 0. Ask and
+ * share answer the place after the message that they wrote; serve answers 0 and has that place beside it.
  *
  * Nothing has to be checked before a call. Any number, any sequence of bytes and any bits in a record's fields get an answer; a call tests the record
  * first. A refusal leaves records and buffers as they were.
@@ -25,11 +26,11 @@
  *
  *   - bytes arrive as they were sent, in this cluster and block: put each message into a frame with both names and a checksum, better a MAC. The
  *     message checks find no altered bit, and one that is taken spreads and cannot be taken back;
- *   - a record is durable before any byte that shows it leaves, or a result is told. Until then a call may be undone;
+ *   - a record is durable before any byte that shows it leaves, or a result or a drop is told. Until then a call may be undone;
  *   - a server whose record is lost or old never comes back: it counts against f for good. A desk then takes a number never used before;
  *   - among honest parties TORN, BAD_MAP, ODD_FIELD, LIGHT and CLASH never occur. CLASH is an alarm: two parties hold what cannot both be true;
  *   - ask all servers in every round, and again as often as you like; that an operation ends nobody can promise. A write that is dropped in phase 2
- *     may still take effect;
+ *     may still take effect, until the same desk has ended a read;
  *   - one store is one block, a register and no lock: beside it one desk at a time looks, sells and writes, until its write has ended.
  */
 #ifndef TOVRIDSA_H
@@ -133,13 +134,13 @@ enum { TOVRIDSA_READ = 1, TOVRIDSA_WRITE = 2 };
 
 typedef struct tovridsa_operation {
     uint32_t mode;     /* NONE, RUNNING or ENDED */
-    uint32_t note;     /* what its messages carry for the host, or 0 */
+    uint32_t note;     /* what its messages carry for the host, or 0; 0 once it has ended or was dropped */
     uint32_t restarts; /* how often it started over */
     uint16_t kind;     /* READ or WRITE; also 0 if there is no operation */
     uint16_t phase;    /* 1 or 2; also 0 if none runs */
     uint16_t answered; /* the servers that have answered in this round: bit i, bit 0 worth 1, is server i */
-    tovridsa_value value;     /* what is to be written */
-    tovridsa_register chosen; /* what phase 1 chose */
+    tovridsa_value value;     /* what is to be written; empty once it has ended or was dropped */
+    tovridsa_register chosen; /* what phase 1 chose: in phase 2, and once it has ended; else the start */
 } tovridsa_operation;
 
 /* A desk: a client of the store. */
