@@ -6,6 +6,7 @@ use std::collections::BTreeSet;
 
 use super::kinds::kind;
 use super::line::Line;
+use super::SEED;
 use crate::machine::calls::Right;
 use crate::machine::command::Command;
 use crate::machine::program::Program;
@@ -25,6 +26,12 @@ pub enum Party {
     Desk(u64),
 }
 
+/// The parties of a run among which one is chosen: `servers` or `desks`.
+pub type Parties = fn(&Run) -> Vec<Party>;
+
+/// Of so many runs the richest section is taken.
+const RUNS: usize = 12;
+
 /// Of calls that only write a message, so many in a row are taken.
 const MOST_IN_ROW: usize = 2;
 
@@ -39,15 +46,30 @@ fn model() -> Program<Ledger, Right> {
     Program::new(Right)
 }
 
+/// A party of the pair's cluster to which only what was sent comes.
+pub fn ordinary_day(pair: (u64, u64), parties: Parties, bytes: usize) -> Vec<Line> {
+    let place = pairs().iter().position(|other| *other == pair);
+    let place = place.expect("it is a pair");
+    let runs: Vec<_> = (0..RUNS).map(|again| ordinary(place, again)).collect();
+    richest(&runs, parties, bytes)
+}
+
+/// A party of a cluster, by its place in `pairs`, to which forged messages come
+/// too.
+pub fn among_forged(place: usize, parties: Parties, bytes: usize) -> Vec<Line> {
+    let runs: Vec<_> = (0..RUNS).map(|again| forged(place, again)).collect();
+    richest(&runs, parties, bytes)
+}
+
 /// A run of the pair in which messages are forged or damaged.
-pub fn forged(seed: u64, place: usize, again: usize) -> Run {
-    draw_damaged(seed, run_number(place, again), &mut model(), &mut |_| {})
+fn forged(place: usize, again: usize) -> Run {
+    draw_damaged(SEED, run_number(place, again), &mut model(), &mut |_| {})
 }
 
 /// A run of the pair in which nobody forges, misuses or crashes.
-pub fn ordinary(seed: u64, place: usize, again: usize) -> Run {
+fn ordinary(place: usize, again: usize) -> Run {
     let number = run_number(place, again);
-    let mut random = Random::of_case(seed, number);
+    let mut random = Random::of_case(SEED, number);
     let mut pace = Pace::draw(&mut random, number);
     pace.desks.truncate(3);
     pace.steps = 400;
@@ -59,7 +81,7 @@ pub fn ordinary(seed: u64, place: usize, again: usize) -> Run {
 
 /// Of all parties of these runs that are of one sort, the section that is worth
 /// the most in so many bytes. It ends with the party's record.
-pub fn richest(runs: &[Run], parties: fn(&Run) -> Vec<Party>, bytes: usize) -> Vec<Line> {
+fn richest(runs: &[Run], parties: Parties, bytes: usize) -> Vec<Line> {
     let mut best = (0, 0);
     let mut section = Vec::new();
     for run in runs {

@@ -12,9 +12,8 @@ pub mod replies;
 pub mod sheets;
 pub mod stamps;
 
-use super::drawn::{desks, forged, ordinary, richest};
+use super::drawn::{among_forged, desks, ordinary_day};
 use super::line::Line;
-use super::SEED;
 use crate::runs::pace::pairs;
 
 /// The clusters of the ordinary days, and how many bytes each may take.
@@ -30,16 +29,15 @@ const ORDINARY: [(u64, u64); 8] = [
 ];
 const ORDINARY_BYTES: usize = 6_000;
 
-/// Of so many runs the richest section is taken, in so many bytes and so many
-/// more for each server of the cluster.
-const RUNS: usize = 12;
+/// How many bytes a section with forged messages may take, and how many more for
+/// each server of the cluster.
 const BYTES: usize = 2_600;
 const BYTES_MORE: usize = 150;
 
 pub fn lines() -> Vec<Line> {
     let mut lines = bounds::before_a_house();
     for pair in ORDINARY {
-        lines.extend(ordinary_day(pair));
+        lines.extend(ordinary_day(pair, desks, ORDINARY_BYTES));
     }
     lines.extend(bounds::houses());
     lines.extend(bounds::nobody());
@@ -64,7 +62,8 @@ pub fn lines() -> Vec<Line> {
         .enumerate()
         .filter(|(_, (n, f))| is_drawn(*n, *f))
     {
-        lines.extend(among_forged(place, pair));
+        let bytes = BYTES + BYTES_MORE * pair.0 as usize;
+        lines.extend(among_forged(place, desks, bytes));
     }
     lines
 }
@@ -74,20 +73,4 @@ pub fn lines() -> Vec<Line> {
 fn is_drawn(n: u64, f: u64) -> bool {
     let most = n.div_ceil(2) - 1;
     [0, most.div_ceil(2), most].contains(&f)
-}
-
-/// A desk to which only what was sent comes.
-fn ordinary_day(pair: (u64, u64)) -> Vec<Line> {
-    let place = pairs().iter().position(|other| *other == pair);
-    let place = place.expect("it is a pair");
-    let runs: Vec<_> = (0..RUNS)
-        .map(|again| ordinary(SEED, place, again))
-        .collect();
-    richest(&runs, desks, ORDINARY_BYTES)
-}
-
-/// A desk to which forged messages come too.
-fn among_forged(place: usize, (n, _): (u64, u64)) -> Vec<Line> {
-    let runs: Vec<_> = (0..RUNS).map(|again| forged(SEED, place, again)).collect();
-    richest(&runs, desks, BYTES + BYTES_MORE * n as usize)
 }

@@ -11,25 +11,23 @@ pub mod one;
 pub mod order;
 pub mod tags;
 
-use super::drawn::{forged, ordinary, richest, servers};
+use super::drawn::{among_forged, ordinary_day, servers};
 use super::line::Line;
-use super::SEED;
 use crate::runs::pace::pairs;
 
 /// The clusters of the ordinary days, and how many bytes each may take.
 const ORDINARY: [(u64, u64); 6] = [(1, 0), (2, 0), (3, 1), (5, 1), (7, 3), (16, 7)];
 const ORDINARY_BYTES: usize = 5_000;
 
-/// Of so many runs the richest section is taken, in so many bytes and so many
-/// more for each server of the cluster.
-const RUNS: usize = 12;
+/// How many bytes a section with forged messages may take, and how many more for
+/// each server of the cluster.
 const BYTES: usize = 2_000;
 const BYTES_MORE: usize = 150;
 
 pub fn lines() -> Vec<Line> {
     let mut lines = bounds::before_a_house();
     for pair in ORDINARY {
-        lines.extend(ordinary_day(pair));
+        lines.extend(ordinary_day(pair, servers, ORDINARY_BYTES));
     }
     lines.extend(bounds::houses());
     lines.extend(bounds::nobody());
@@ -45,23 +43,8 @@ pub fn lines() -> Vec<Line> {
     lines.extend(ends::sums());
     for (place, pair) in pairs().into_iter().enumerate() {
         lines.extend(gifts::gifts(place, pair));
-        lines.extend(among_forged(place, pair));
+        let bytes = BYTES + BYTES_MORE * pair.0 as usize;
+        lines.extend(among_forged(place, servers, bytes));
     }
     lines
-}
-
-/// A server to which only what was sent comes.
-fn ordinary_day(pair: (u64, u64)) -> Vec<Line> {
-    let place = pairs().iter().position(|other| *other == pair);
-    let place = place.expect("it is a pair");
-    let runs: Vec<_> = (0..RUNS)
-        .map(|again| ordinary(SEED, place, again))
-        .collect();
-    richest(&runs, servers, ORDINARY_BYTES)
-}
-
-/// A server to which forged messages come too.
-fn among_forged(place: usize, (n, _): (u64, u64)) -> Vec<Line> {
-    let runs: Vec<_> = (0..RUNS).map(|again| forged(SEED, place, again)).collect();
-    richest(&runs, servers, BYTES + BYTES_MORE * n as usize)
 }
