@@ -15,7 +15,7 @@
  * the time of the call; nobody else may write those bytes during it, nor read those that the call may write; and no two of the buffers and records
  * that one call is lent may overlap where it may write one of them. With the length 0 nothing is read or written, and the pointer may be null: that is
  * how an empty message, value or block is passed. A pointer to a record is aligned for it and not null. The functions keep no pointer, use no memory
- * but the stack (24 KiB are enough), and may be called from several threads at once, on different records.
+ * but the stack (less than 24 KiB, as measured), and may be called from several threads at once, on different records.
  *
  * Records are plain data: copy them, compare them with memcmp (they have no padding), keep them in a file. In a record that was opened and has been
  * through calls only, what means nothing is 0: the bytes after a value's own, and what an operation does not use. Only what the last call on a record

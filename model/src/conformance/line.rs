@@ -14,6 +14,25 @@ pub fn text(line: &Line) -> String {
     line.line(|bytes| bytes)
 }
 
+/// Clusters out of bounds, also by numbers that are within when they are cut to
+/// fewer bits, or doubled.
+pub const BAD_HOUSES: [(u64, u64); 14] = [
+    (0, 0),
+    (17, 0),
+    (1, 1),
+    (2, 1),
+    (4, 2),
+    (16, 8),
+    (5, 1 << 63),
+    (5, u64::MAX),
+    (u64::MAX, 0),
+    ((1 << 8) + 5, 1),
+    ((1 << 32) + 5, 1),
+    ((1 << 63) + 5, 1),
+    (5, (1 << 8) + 1),
+    (5, (1 << 32) + 1),
+];
+
 /// A request to a server, with no register, sheet or note.
 pub fn request(server: u8, desk: u16, round: u32) -> Message<'static> {
     Message {

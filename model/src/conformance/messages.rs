@@ -2,7 +2,7 @@
 //! those that are refused, at every place of paper 01's "Checks".
 
 use super::faults;
-use super::line::{request, share, sheet, Line};
+use super::line::{request, share, sheet, Line, BAD_HOUSES};
 use super::sums::{self, MOST_IN_ROW};
 use super::SEED;
 use crate::aim::{aimed, Aimed};
@@ -58,19 +58,11 @@ fn page() -> Vec<Line> {
 /// that come near when they are cut to fewer bits or doubled.
 fn clusters(random: &mut Random) -> Vec<Line> {
     let far = [1 << 8, 1 << 16, 1 << 32, 1 << 63];
-    let mut bad = vec![
-        (0, 0),
-        (0, u64::MAX),
-        (17, 0),
-        (1, 1),
-        (2, 1),
-        (4, 2),
-        (16, 8),
-    ];
-    bad.extend([(5, u64::MAX), (u64::MAX, 0), (u64::MAX, u64::MAX)]);
-    bad.extend(far.map(|far| (far + 5, 1)));
-    bad.extend(far.map(|far| (5, far + 1)));
-    bad.extend(far.map(|far| (5, far)));
+    let mut bad = BAD_HOUSES.to_vec();
+    bad.extend([(0, u64::MAX), (u64::MAX, u64::MAX)]);
+    bad.extend(far.map(|far| (far + 16, 7)));
+    bad.extend(far.map(|far| (16, far + 7)));
+    bad.extend(far.map(|far| (16, far)));
     bad.extend((0..16).map(|_| bad_cluster(random)));
     let mut lines: Vec<Line> = Vec::new();
     for (n, f) in bad {

@@ -2,8 +2,7 @@
 //! desk has.
 
 use super::one::One;
-use crate::conformance::line::{reply, Line};
-use crate::conformance::server::bounds::BAD_HOUSES;
+use crate::conformance::line::{reply, Line, BAD_HOUSES};
 use crate::machine::command::Command;
 use crate::machine::desk::Task;
 use crate::runs::player::ROOMY;

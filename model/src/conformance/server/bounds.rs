@@ -2,30 +2,11 @@
 //! there are not.
 
 use super::one::One;
-use crate::conformance::line::{register, request, share, Line};
+use crate::conformance::line::{register, request, share, Line, BAD_HOUSES};
 use crate::format::Message;
 use crate::machine::command::Command;
 use crate::runs::player::ROOMY;
 use crate::write::write;
-
-/// Clusters out of bounds, also by numbers that are within when they are cut to
-/// fewer bits, or doubled.
-pub const BAD_HOUSES: [(u64, u64); 14] = [
-    (0, 0),
-    (17, 0),
-    (1, 1),
-    (2, 1),
-    (4, 2),
-    (16, 8),
-    (5, 1 << 63),
-    (5, u64::MAX),
-    (u64::MAX, 0),
-    ((1 << 8) + 5, 1),
-    ((1 << 32) + 5, 1),
-    ((1 << 63) + 5, 1),
-    (5, (1 << 8) + 1),
-    (5, (1 << 32) + 1),
-];
 
 /// Each call of a server of this number.
 fn calls(server: u64, message: &Message) -> [Line; 4] {
