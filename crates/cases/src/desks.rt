@@ -4,10 +4,12 @@ use super::buffer::marked;
 use super::buffer::written;
 use super::print::item;
 use super::print::refusal;
+use super::print::signed;
 use super::print::verdict;
 use super::print::word;
 use super::record::print_desk;
 use super::record::print_value;
+use config::Signed;
 use config::Verdict;
 use desk::Desk;
 use desk::DeskAnswer;
@@ -27,6 +29,10 @@ pub(crate) fn call_desk(desk: Desk, call: DeskCall, bytes: &[u8]) -> Desk {
         DeskCall::Hear => hear(desk, bytes),
         DeskCall::Result => {
             result(desk.result());
+            desk
+        }
+        DeskCall::Margin => {
+            margin(desk.margin());
             desk
         }
         DeskCall::Drop => changed(desk.drop()),
@@ -82,4 +88,15 @@ fn result(told: Told) {
     item(b" ", told.restarts as u64);
     word(b" ");
     print_value(value);
+}
+
+// Twice the weight of the servers that answered, less W.
+fn margin(answer: Signed) {
+    match answer {
+        Signed::Value(x) => {
+            word(b"ok ");
+            signed(x);
+        }
+        Signed::Refused(r) => refusal(r),
+    }
 }

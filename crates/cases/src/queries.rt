@@ -5,7 +5,6 @@ use super::print::hex;
 use super::print::number;
 use super::print::signed;
 use config::Config;
-use config::Decision;
 use config::Number;
 use config::Signed;
 use config::Verdict;
@@ -28,9 +27,8 @@ pub(crate) fn ask_about(config: Config, query: Query, bytes: &[u8]) {
             Signed::Refused(r) => code(r),
         },
         Query::Quorum(map) => match quorum(config, map, bytes) {
-            Decision::Yes => number(1),
-            Decision::No => number(0),
-            Decision::Refused(r) => code(r),
+            Signed::Value(x) => signed(x),
+            Signed::Refused(r) => code(r),
         },
         Query::Seats => match on_offer(bytes) {
             Number::Value(x) => number(x),

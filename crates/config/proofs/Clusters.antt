@@ -17,9 +17,8 @@ use Rattle.config.specs.declared.cluster.Config.{Config}
 use Rattle.config.specs.Refusals.{refusal}
 use Rattle.config.specs.declared.answer.Refusal.{Refusal}
 use Rattle.config.specs.declared.answer.Number.{Number}
-use Rattle.config.specs.declared.answer.Decision.{Decision}
 use Rattle.config.specs.Cluster.{validOf, serverOf, startOf, totalOf, aboveOf, leastOf}
-use Rattle.config.specs.Answers.{decide, totalAnswer, leastAnswer}
+use Rattle.config.specs.Answers.{totalAnswer, leastAnswer}
 
 -- ---- validity
 
@@ -114,18 +113,6 @@ start-above c i v =
 
 pub value-not-refused : (x : ℕ) (r : Refusal) → Number.Value x ≡ Number.Refused r → ⊥
 value-not-refused x r e = let z : _≡_ {A = ℕ} 0 1 = cc in omega arith
-
--- yes and no tell what was decided, and are no refusal
-
-pub decide-same : (a b : Bool) → decide a ≡ decide b → a ≡ b
-decide-same true true e = refl
-decide-same true false e = let z : _≡_ {A = ℕ} 0 1 = cc in absurd (omega arith)
-decide-same false true e = let z : _≡_ {A = ℕ} 0 1 = cc in absurd (omega arith)
-decide-same false false e = refl
-
-pub decide-not-refused : (b : Bool) (r : Refusal) → decide b ≡ Decision.Refused r → ⊥
-decide-not-refused true r e = let z : _≡_ {A = ℕ} 0 1 = cc in omega arith
-decide-not-refused false r e = let z : _≡_ {A = ℕ} 0 1 = cc in omega arith
 
 told-value : (b : Bool) (x y : ℕ) → cond b (Number.Value x) (Number.Refused (refusal 1)) ≡ Number.Value y → (b ≡ true) × (y ≡ x)
 told-value b x y e = let t = chosen-first b _ _ _ (λ d. value-not-refused _ _ (sym d)) e in (t .0, cc)

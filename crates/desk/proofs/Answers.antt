@@ -1,16 +1,17 @@
--- What hear on the parts of a record finds and hands back: the record test and a quorum by one weighing, hear of what was read, and of each outcome the
+-- What hear on the parts of a record finds and hands back: the record test and a margin by one weighing, hear of what was read, and of each outcome the
 -- parts with the counts and cells that are left.
 use Prim.Native.Nat.{ℕ}
 use mathlib.Core.Path.{_≡_, refl, sym, ap, ap₂, subst, _∙_}
 use mathlib.Core.Bool.{Bool, true, false, cond, false≢true}
 use mathlib.Core.List.{List}
 use lib.Dec.{ltb}
+use lib.IntN.{ℤ, pos}
 use Rattle.config.specs.Refusals.{by-verdict}
 use Rattle.config.specs.declared.answer.Verdict.{Verdict}
 use Rattle.config.specs.declared.answer.Verdict.the-variants.{Accepted, Refused}
 use Rattle.ledger.specs.Checks.{checkAnswer}
 use Rattle.ledger.specs.Sums.{weighedOf}
-use Rattle.ledger.specs.Weights.{quorumOf}
+use Rattle.ledger.specs.Weights.{marginOf}
 use Rattle.ledger.specs.declared.ledger.Ledger.{Ledger}
 use Rattle.ledger.specs.declared.sums.Weighed.{Weighed}
 use Rattle.message.specs.Answers.{takenOf, takenLedger}
@@ -51,13 +52,13 @@ module _ (x : Desk) (m : ℕ) (w : Weighed) (d : w ≡ weighedOf (x .config) (x 
       by-verdicts Accepted e = sym (passed-fits (x .config) (x .replica) e)
       by-verdicts (Refused k) e = sym (refused-fits (x .config) (x .replica) k e)
 
-  -- and a quorum, of a record that passes
-  pub weighed-quorum : fits x ≡ true → w .quorum ≡ quorumOf (x .config) (x .replica .ledger) m
+  -- and the margin, of a record that passes
+  pub weighed-margin : fits x ≡ true → w .margin ≡ marginOf (x .config) (x .replica .ledger) m
   unfolding weighedOf
-  weighed-quorum f = rw d (by-verdicts (checkAnswer (x .config) (x .replica .ledger)) refl)
+  weighed-margin f = rw d (by-verdicts (checkAnswer (x .config) (x .replica .ledger)) refl)
     where
       by-verdicts : (v : Verdict) → checkAnswer (x .config) (x .replica .ledger) ≡ v
-          → by-verdict v (quorumOf (x .config) (x .replica .ledger) m) (λ k. false) ≡ quorumOf (x .config) (x .replica .ledger) m
+          → by-verdict v (marginOf (x .config) (x .replica .ledger) m) (λ k. pos 0) ≡ marginOf (x .config) (x .replica .ledger) m
       by-verdicts Accepted e = refl
       by-verdicts (Refused k) e = absurd (false≢true (refused-fits (x .config) (x .replica) k e ∙ fits-told x f .replica-fits))
 
@@ -112,13 +113,13 @@ module _ (x : Desk) (h : Heard) (r : HeardIn) where
         held part = ap part (restart-ledger x p) ∙ by-test part (ltb (x .round) mostRound)
 
     -- one on whose own ledger a server has answered, where m are all that have
-    pub mark-answers : (i m : ℕ) (q : Bool) → p .ledger ≡ x .replica .ledger → m ≡ marked (x .operation .answered) i
-        → q ≡ quorumOf (x .config) (x .replica .ledger) m → h ≡ markOf x p i
-        → r ≡ markIn (x .config) (x .number) (x .replica .register) (p .register) (x .round) (x .operation) m q
+    pub mark-answers : (i m : ℕ) (y : ℤ) → p .ledger ≡ x .replica .ledger → m ≡ marked (x .operation .answered) i
+        → y ≡ marginOf (x .config) (x .replica .ledger) m → h ≡ markOf x p i
+        → r ≡ markIn (x .config) (x .number) (x .replica .register) (p .register) (x .round) (x .operation) m y
         → Answers h r (x .replica .ledger .counts) (x .replica .ledger .cells)
-    mark-answers i m q l a b d e =
+    mark-answers i m y l a b d e =
         let same = mark-ledger x p i l in
-        let counted = b ∙ ap₂ (quorumOf (x .config)) (sym l) a in
+        let counted = b ∙ ap₂ (marginOf (x .config)) (sym l) a in
         let parts = markIn (x .config) (x .number) (x .replica .register) (p .register) (x .round) (x .operation) in
         rw d
         (e ∙ ap₂ parts a counted ∙ sym (mark-parts x p i), sym (ap (λ (y : Ledger). y .counts) same), sym (ap (λ (y : Ledger). y .cells) same))

@@ -5,6 +5,8 @@ use mathlib.Core.Path.{_≡_, refl, sym, ap, _∙_}
 use mathlib.Core.Bool.{Bool, true, false, cond}
 use native.Mathlib.Omega.{arith}
 use lib.Dec.{eqb, ltb}
+use lib.IntN.{pos}
+use lib.Signed.{ltZ}
 use Rattle.config.specs.Refusals.{by-verdict, refusal}
 use Rattle.config.specs.declared.cluster.Config.{Config}
 use Rattle.config.specs.declared.answer.Refusal.{Refusal}
@@ -12,9 +14,10 @@ use Rattle.config.specs.declared.answer.Verdict.{Verdict}
 use Rattle.config.specs.declared.answer.Verdict.the-variants.{Accepted, Refused}
 use Rattle.ledger.specs.Joins.{lacks}
 use Rattle.ledger.specs.Ledgers.{Shaped}
-use Rattle.ledger.specs.Weights.{quorumOf}
+use Rattle.ledger.specs.Weights.{marginOf, quorumOf}
 use Rattle.ledger.specs.declared.ledger.Ledger.{Ledger}
 use Rattle.ledger.specs.declared.join.Compared.{Compared}
+use Rattle.ledger.proofs.Answers.{quorum-margin}
 use Rattle.ledger.proofs.Unions.{joined-has}
 use Rattle.message.specs.declared.envelope.Envelope.{Envelope}
 use Rattle.message.specs.Faults.{Passed}
@@ -88,9 +91,9 @@ module _ (x : Desk) (p : Replica) where
 
     pub mark-parts : partsOf (markOf x p i)
         ≡ markIn (x .config) (x .number) (x .replica .register) (p .register) (x .round) (x .operation) (marked (x .operation .answered) i)
-        (quorumOf (x .config) (p .ledger) (marked (x .operation .answered) i))
+        (marginOf (x .config) (p .ledger) (marked (x .operation .answered) i))
     unfolding markOf markIn
-    mark-parts = by-tests (quorumOf (x .config) (p .ledger) m) (eqb (x .operation .phase) 1)
+    mark-parts = rw quorum-margin (by-tests (ltZ (pos 0) (marginOf (x .config) (p .ledger) m)) (eqb (x .operation .phase) 1))
       where
         by-tests : (q f : Bool) → partsOf (answered q f)
             ≡ cond q (cond f (chooseIn (x .config) (x .number) (x .replica .register) (p .register) (x .round) (x .operation)) (partsOf (accepted (finished x p))))

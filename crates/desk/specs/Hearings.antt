@@ -1,7 +1,9 @@
 -- Hear on the parts of a record: what becomes of a message that was read, and what a reply does that is taken, beside counts and cells.
 use Prim.Native.Nat.{ℕ, suc}
-use mathlib.Core.Bool.{Bool, cond}
+use mathlib.Core.Bool.{cond}
 use lib.Dec.{eqb, ltb}
+use lib.IntN.{ℤ, pos}
+use lib.Signed.{ltZ}
 use Rattle.config.specs.Refusals.{by-verdict, refusal}
 use Rattle.config.specs.declared.cluster.Config.{Config}
 use Rattle.config.specs.declared.answer.Verdict.{Verdict}
@@ -51,8 +53,9 @@ chooseIn c d g h k o =
     (heardOf Hearing.Accepted (chosenBy d o h) (suc k) (inPhaseTwo o (chosenBy d o h))))
     (heardOf (Hearing.Refused (refusal 12)) g k o)
 
--- an equal ledger, where m are the servers that have answered, and q whether they are a quorum
-unfoldable pub markIn : Config → ℕ → Register → Register → ℕ → Operation → ℕ → Bool → HeardIn
-markIn c d g h k o m q =
-    cond q (cond (eqb (o .phase) 1) (chooseIn c d g h k o) (heardOf Hearing.Accepted h k (finishedOperation o)))
+-- an equal ledger, where m are the servers that have answered, and y is their margin: "Hear and the C host take this number and decide by its sign"
+-- (paper 02, N1)
+unfoldable pub markIn : Config → ℕ → Register → Register → ℕ → Operation → ℕ → ℤ → HeardIn
+markIn c d g h k o m y =
+    cond (ltZ (pos 0) y) (cond (eqb (o .phase) 1) (chooseIn c d g h k o) (heardOf Hearing.Accepted h k (finishedOperation o)))
     (heardOf Hearing.Accepted h k (answeredBy o m (o .restarts)))

@@ -4,6 +4,7 @@ pub mod Desks
 pub mod Begins
 pub mod Asks
 pub mod Results
+pub mod Margins
 pub mod Hears
 pub mod Parts
 pub mod Hearings

@@ -87,7 +87,7 @@ impl Desk {
 }
 
 // Hear on the parts of a record, of which the ledger is lent as its counts and cells: they are changed where they lie, or left as they were where the
-// reply is late or refused. The record test is made once it is known which servers will have answered, and finds whether they are a quorum.
+// reply is late or refused. The record test is made once it is known which servers will have answered, and finds their margin.
 pub fn hear_in(
     config: Config,
     number: u64,
@@ -160,7 +160,7 @@ pub fn hear_in(
             round,
             operation,
             map,
-            weighed.quorum,
+            weighed.margin,
         ),
     }
 }
@@ -214,7 +214,7 @@ fn consider(
 }
 
 // Whether a party may hold a register beside a ledger of which the record test has said its verdict.
-fn fits(ledger: Verdict, register: Register, config: Config) -> bool
+pub(crate) fn fits(ledger: Verdict, register: Register, config: Config) -> bool
     ensures { λ r. ⌜ r ≡ by-verdict ledger (registerFits config register) (λ k. false) ⌝ }
 {
     let Verdict::Accepted = ledger else {

@@ -44,8 +44,8 @@ pub(crate) fn restart(
     }
 }
 
-// The ledgers are equal: the server is marked, and where the marked servers are a quorum the phase ends, which after phase 2 ends the operation.
-// Ending phase 1 may give 12.
+// The ledgers are equal: the server is marked, and where the marked servers are a quorum, by the sign of their margin, the phase ends, which after
+// phase 2 ends the operation. Ending phase 1 may give 12.
 pub(crate) fn mark(
     config: Config,
     number: u64,
@@ -54,27 +54,27 @@ pub(crate) fn mark(
     round: u32,
     operation: Operation,
     map: u16,
-    quorum: bool,
+    margin: i64,
 ) -> HeardIn
     requires { ⌜ number ≤ 65535 ⌝ }
-    ensures { λ r. ⌜ r ≡ markIn config number register joined round operation map quorum ⌝ }
+    ensures { λ r. ⌜ r ≡ markIn config number register joined round operation map margin ⌝ }
 {
-    if !quorum {
+    if 0 < margin {
+        if operation.phase == 1 {
+            return choose(config, number, register, joined, round, operation);
+        }
         return HeardIn {
             hearing: Hearing::Accepted,
             register: joined,
             round,
-            operation: operation.answered_by(map, operation.restarts),
+            operation: operation.finished(),
         };
-    }
-    if operation.phase == 1 {
-        return choose(config, number, register, joined, round, operation);
     }
     HeardIn {
         hearing: Hearing::Accepted,
         register: joined,
         round,
-        operation: operation.finished(),
+        operation: operation.answered_by(map, operation.restarts),
     }
 }
 

@@ -4,6 +4,7 @@ mod begin;
 mod hear;
 mod heed;
 mod lent;
+mod margin;
 mod operation;
 mod record;
 mod result;

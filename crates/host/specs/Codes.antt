@@ -1,5 +1,5 @@
--- The numbers that a C host gets (paper 01, "Desk"): 0 for a message that passes, the weight, 1 or 0 for a quorum, the seats, or for a refusal −1,000,000
--- less its number.
+-- The numbers that a C host gets (paper 01, "Desk"; paper 02, N1): 0 for a message that passes, the weight, the margin of a map, the seats, or for a
+-- refusal −1,000,000 less its number.
 use Prim.Native.Nat.{ℕ, _+_, _<_}
 use mathlib.Core.List.{List}
 use lib.IntN.{ℤ, pos}
@@ -8,7 +8,6 @@ use Rattle.config.specs.Refusals.{numberOf}
 use Rattle.config.specs.declared.cluster.Config.{Config}
 use Rattle.config.specs.declared.answer.Refusal.{Refusal}
 use Rattle.config.specs.declared.answer.Verdict.{Verdict}
-use Rattle.config.specs.declared.answer.Decision.{Decision}
 use Rattle.config.specs.declared.answer.Number.{Number}
 use Rattle.config.specs.declared.answer.Signed.{Signed}
 use Rattle.desk.specs.declared.record.Hearing.{Hearing}
@@ -32,11 +31,6 @@ numberCode (Number.Refused r) = refusalCode r
 abbrev pub signedCode : Signed → ℤ
 signedCode (Signed.Value x) = x
 signedCode (Signed.Refused r) = refusalCode r
-
-abbrev pub decisionCode : Decision → ℤ
-decisionCode Decision.Yes = pos 1
-decisionCode Decision.No = pos 0
-decisionCode (Decision.Refused r) = refusalCode r
 
 -- 0 for a reply that was taken, 1 for one that came too late
 abbrev pub hearingCode : Hearing → ℤ
@@ -68,7 +62,7 @@ unfoldable pub weightCode : Config → ℕ → List ℕ → ℤ
 weightCode c server msg = signedCode (weightIn c server msg)
 
 unfoldable pub quorumCode : Config → ℕ → List ℕ → ℤ
-quorumCode c map msg = decisionCode (quorumIn c map msg)
+quorumCode c map msg = signedCode (quorumIn c map msg)
 
 unfoldable pub seatsCode : List ℕ → ℤ
 seatsCode block = numberCode (offerAnswer block)

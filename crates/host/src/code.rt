@@ -1,12 +1,11 @@
 // The number of an answer.
-use config::Decision;
 use config::Number;
 use config::Refusal;
 use config::Signed;
 use config::Verdict;
 use desk::Hearing;
 ghost use mathlib.Core.Path.{_≡_};
-ghost use Rattle.host.specs.Codes.{refusalCode, verdictCode, signedCode, decisionCode, numberCode, Within, hearingCode, doneCode, placeCode};
+ghost use Rattle.host.specs.Codes.{refusalCode, verdictCode, signedCode, numberCode, Within, hearingCode, doneCode, placeCode};
 
 // −1,000,000 less the refusal's number.
 pub(crate) fn of_refusal(refusal: Refusal) -> i64
@@ -31,16 +30,6 @@ pub(crate) fn of_signed(answer: Signed) -> i64
     match answer {
         Signed::Value(x) => x,
         Signed::Refused(r) => of_refusal(r),
-    }
-}
-
-pub(crate) fn of_decision(answer: Decision) -> i64
-    ensures { λ r. ⌜ r ≡ decisionCode answer ⌝ }
-{
-    match answer {
-        Decision::Yes => 1,
-        Decision::No => 0,
-        Decision::Refused(r) => of_refusal(r),
     }
 }
 

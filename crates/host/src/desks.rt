@@ -2,6 +2,7 @@
 // offered on a record that the host lends.
 use super::code::of_hearing;
 use super::code::of_number;
+use super::code::of_signed;
 use super::code::of_verdict;
 use desk::Desk;
 use desk::DeskAnswer;
@@ -18,7 +19,8 @@ ghost use Rattle.desk.specs.Begins.{beginOf, dropOf, answerOf};
 ghost use Rattle.desk.specs.Asks.{askOf};
 ghost use Rattle.desk.specs.Hears.{hearOf};
 ghost use Rattle.desk.specs.Results.{resultOf};
-ghost use Rattle.host.specs.Codes.{numberCode, hearingCode};
+ghost use Rattle.desk.specs.Margins.{marginOf};
+ghost use Rattle.host.specs.Codes.{numberCode, signedCode, hearingCode};
 ghost use Rattle.host.specs.Calls.{deskCode, heardCode, toldCode};
 
 // 0, for a reply that came too late 1, or a refusal; and the record changed, or as it was where the answer is not 0.
@@ -131,6 +133,14 @@ pub extern "C" fn tovridsa_result(desk: Desk) -> AnsweredResult
         kind: told.kind as u32,
         register,
     }
+}
+
+// How far the operation that runs is from a quorum: twice the weight of the servers that answered in this round, on the desk's own sheet, less W.
+#[no_mangle]
+pub extern "C" fn tovridsa_margin(desk: Desk) -> i64
+    ensures { λ r. ⌜ r ≡ signedCode (marginOf desk) ⌝ }
+{
+    of_signed(desk.margin())
 }
 
 // Ends the operation that runs without a result.

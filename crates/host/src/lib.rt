@@ -5,7 +5,6 @@ mod code;
 mod desks;
 mod servers;
 
-use code::of_decision;
 use code::of_number;
 use code::of_signed;
 use code::of_verdict;
@@ -34,12 +33,12 @@ pub extern "C" fn tovridsa_weight(n: u64, f: u64, server: u64, msg: &[u8]) -> i6
     of_signed(weight(Config::of(n, f), server, msg))
 }
 
-// 1 where the servers that a map names are a quorum on a message's sheet, else 0.
+// Twice the weight of the servers that a map names on a message's sheet, less W: above 0 they are a quorum.
 #[no_mangle]
 pub extern "C" fn tovridsa_quorum(n: u64, f: u64, map: u64, msg: &[u8]) -> i64
     ensures { λ r. ⌜ r ≡ quorumCode (configOf n f) map (now (msg .entry)) ⌝ }
 {
-    of_decision(quorum(Config::of(n, f), map, msg))
+    of_signed(quorum(Config::of(n, f), map, msg))
 }
 
 // How many seats of a block are on offer.

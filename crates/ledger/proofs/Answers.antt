@@ -2,7 +2,7 @@
 use Prim.Native.Nat.{ℕ, _+_, _*_, _^_, _<_}
 use native.Mathlib.Omega.{arith}
 use mathlib.Core.Path.{_≡_, refl, sym, ap₂, _∙_, subst}
-use mathlib.Core.Bool.{true, false}
+use mathlib.Core.Bool.{true}
 use lib.IntN.{ℤ, pos, _-ℤ_}
 use lib.Signed.{ltZ, mag}
 use mir.Syntax.{w64}
@@ -11,7 +11,7 @@ use mir.Facts.{toZ-pos, toZ-ofZ}
 use Rattle.quorums.specs.Sum.{sumIn, all}
 use Rattle.quorums.specs.Difference.{difference}
 use Rattle.quorums.specs.Accounts.{held, weight, total, quorum}
-use Rattle.quorums.proofs.Tests.{chosen-first, chosen-second}
+use Rattle.quorums.proofs.Tests.{chosen-first}
 use Rattle.quorums.proofs.Sums.{sumIn-set, all-each}
 use Rattle.quorums.proofs.Differences.{pos-less, difference-mag}
 use Rattle.quorums.proofs.Weights.{weightIn-is, margin-is}
@@ -25,7 +25,7 @@ use Rattle.ledger.specs.declared.balance.Balance.{Balance}
 use Rattle.ledger.specs.Ledgers.{accountsOf, givenOf}
 use Rattle.ledger.specs.Maps.{named, mapOf}
 use Rattle.ledger.specs.Balances.{Sides}
-use Rattle.ledger.specs.Weights.{weightOf, allOf, marginOf, quorumOf, marginAnswer}
+use Rattle.ledger.specs.Weights.{weightOf, allOf, marginOf, quorumOf, quorumAnswer}
 
 -- a signed number that fits is read back as itself
 pub read-back : (z : ℤ) → mag z < 2 ^ 63 → toZ w64 (ofZ w64 z) ≡ z
@@ -74,11 +74,11 @@ quorum-margin c l m = refl
 pub signed-not-refused : (x : ℤ) (r : Refusal) → Signed.Value x ≡ Signed.Refused r → ⊥
 signed-not-refused x r e = let z : _≡_ {A = ℕ} 0 1 = cc in omega arith
 
--- what an answer of `margin` tells
-pub margin-told : (c : Config) (l : Ledger) (m : ℕ) (y : ℤ) → marginAnswer c l m ≡ Signed.Value y → (mapOf c m ≡ true) × (y ≡ marginOf c l m)
-unfolding marginAnswer
-margin-told c l m y e = let t = chosen-first (mapOf c m) _ _ _ (λ d. signed-not-refused _ _ (sym d)) e in (t .0, cc)
+-- what an answer of `quorum` tells
+pub quorum-number : (c : Config) (l : Ledger) (m : ℕ) (y : ℤ) → quorumAnswer c l m ≡ Signed.Value y → (mapOf c m ≡ true) × (y ≡ marginOf c l m)
+unfolding quorumAnswer
+quorum-number c l m y e = let t = chosen-first (mapOf c m) _ _ _ (λ d. signed-not-refused _ _ (sym d)) e in (t .0, cc)
 
-pub margin-refused : (c : Config) (l : Ledger) (m : ℕ) (r : Refusal) → marginAnswer c l m ≡ Signed.Refused r → mapOf c m ≡ false
-unfolding marginAnswer
-margin-refused c l m r e = chosen-second (mapOf c m) _ _ _ (signed-not-refused _ _) e
+pub told-quorum : (c : Config) (l : Ledger) (m : ℕ) → mapOf c m ≡ true → quorumAnswer c l m ≡ Signed.Value (marginOf c l m)
+unfolding quorumAnswer
+told-quorum c l m e = simp e

@@ -23,4 +23,5 @@ pub mod Spared
 pub mod Faults
 pub mod Summed
 pub mod Meeting
+pub mod Margins
 pub mod Ranges

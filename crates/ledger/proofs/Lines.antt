@@ -14,7 +14,7 @@ use Rattle.config.specs.declared.cluster.Config.{Config}
 use Rattle.ledger.specs.declared.ledger.Ledger.{Ledger}
 use Rattle.ledger.specs.declared.balance.Balance.{Balance}
 use Rattle.ledger.specs.Ledgers.{ledgerOf, lineOf, givenOf, receivedOf, accountsOf}
-use Rattle.ledger.specs.Weights.{weightOf, marginOf, quorumOf, marginAnswer, quorumAnswer}
+use Rattle.ledger.specs.Weights.{weightOf, marginOf, quorumAnswer}
 use Rattle.ledger.specs.Checks.{aboveFloor, floorAnswer}
 use Rattle.ledger.specs.Balances.{Sides, heldIn, givenIn}
 
@@ -76,10 +76,6 @@ pub floor-cells : (c : Config) (l : Ledger) → floorAnswer c (inCells (l .cells
 unfolding floorAnswer aboveFloor weightOf receivedOf givenOf
 floor-cells c l = refl
 
-pub margin-cells : (c : Config) (l : Ledger) (m : ℕ) → marginAnswer c (inCells (l .cells)) m ≡ marginAnswer c l m
-unfolding marginAnswer marginOf receivedOf givenOf
-margin-cells c l m = refl
-
 pub quorum-cells : (c : Config) (l : Ledger) (m : ℕ) → quorumAnswer c (inCells (l .cells)) m ≡ quorumAnswer c l m
-unfolding quorumAnswer quorumOf receivedOf givenOf
+unfolding quorumAnswer marginOf receivedOf givenOf
 quorum-cells c l m = refl

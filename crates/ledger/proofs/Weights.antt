@@ -1,17 +1,17 @@
--- Weights and quorums from what each server received and gave: as the program computes them, and as they are on a ledger.
+-- Weights and margins from what each server received and gave: as the program computes them, and as they are on a ledger.
 use Prim.Native.Nat.{ℕ, _+_, _*_, _≤_, _<_}
 use native.Mathlib.Omega.{arith}
 use mathlib.Core.Path.{_≡_, refl, sym, ap, ap₂, _∙_}
 use mathlib.Core.Bool.{Bool, true, false, cond}
 use mathlib.Core.List.{List}
 use borrow.Author.Tests.{lt-ltb}
-use lib.Dec.{leb, ltb}
+use lib.Dec.{leb}
 use lib.ListN.{getD}
 use Rattle.quorums.specs.Sum.{sumIn}
 use Rattle.quorums.specs.Difference.{difference}
-use Rattle.quorums.specs.Accounts.{held, weight, total, quorum}
+use Rattle.quorums.specs.Accounts.{held, weight, total, margin}
 use Rattle.quorums.proofs.Sums.{all-same, sumIn-none, sumIn-next, sumIn-same}
-use Rattle.quorums.proofs.Weights.{quorum-is}
+use Rattle.quorums.proofs.Weights.{margin-is}
 use Rattle.config.specs.Cluster.{validOf, serverOf, startOf, totalOf, aboveOf, leastOf}
 use Rattle.config.specs.Answers.{totalAnswer, leastAnswer}
 use Rattle.config.specs.declared.cluster.Config.{Config}
@@ -21,7 +21,7 @@ use Rattle.config.proofs.Clusters.{valid-server, server-small, valid-bounds, st
 use Rattle.ledger.specs.declared.ledger.Ledger.{Ledger}
 use Rattle.ledger.specs.Ledgers.{cellOf, receivedOf, givenOf, accountsOf, Typed}
 use Rattle.ledger.specs.Maps.{named}
-use Rattle.ledger.specs.Weights.{weightOf, quorumOf}
+use Rattle.ledger.specs.Weights.{weightOf, marginOf}
 use Rattle.ledger.specs.Checks.{bounded, aboveFloor}
 use Rattle.ledger.specs.Tables.{table}
 use Rattle.ledger.proofs.Tables.{table-at}
@@ -69,13 +69,13 @@ pub counts-most : (b : Bool) (x : ℕ) → cond b x 0 ≤ x
 counts-most true x = omega arith
 counts-most false x = omega arith
 
--- the test of the sums of those that a map names
-pub quorum-at : (c : Config) (r g : List ℕ) (m W h k : ℕ) → totalAnswer c ≡ Number.Value W
+-- the margin, from the sums of those that a map names
+pub margin-at : (c : Config) (r g : List ℕ) (m W h k : ℕ) → totalAnswer c ≡ Number.Value W
     → h ≡ sumIn (c .n) (named m) (held (accountsIn c r g))
     → k ≡ sumIn (c .n) (named m) (λ i. getD g i 0)
-    → ltb (2 * k + W) (2 * h) ≡ quorum (c .n) (accountsIn c r g) (named m)
+    → difference (2 * h) (2 * k + W) ≡ margin (c .n) (accountsIn c r g) (named m)
 unfolding total totalOf
-quorum-at c r g m W h k e p q = rw (total-told c W e .1, p, q) (sym (quorum-is (c .n) (accountsIn c r g) (named m)))
+margin-at c r g m W h k e p q = rw (total-told c W e .1, p, q) (sym (margin-is (c .n) (accountsIn c r g) (named m)))
 
 -- The sums of those that a map names, of the servers below i.
 pub record Counted (c : Config) (r g : List ℕ) (m i h k : ℕ) : Type 0 where
@@ -108,15 +108,15 @@ module _ {c : Config} {r g : List ℕ} {m i h k start : ℕ} (s : Counted c r g 
 
 -- ---- on a ledger
 
--- A quorum depends on what each server received and gave.
-quorum-by : (c : Config) (l : Ledger) (m : ℕ) (r g : List ℕ) → ((i : ℕ) → i < c .n → getD r i 0 ≡ receivedOf l i)
-    → ((i : ℕ) → i < c .n → getD g i 0 ≡ givenOf l i) → quorum (c .n) (accountsIn c r g) (named m) ≡ quorumOf c l m
-unfolding quorumOf total
-quorum-by c l m r g takes gives =
-    quorum-is (c .n) (accountsIn c r g) (named m)
-    ∙ ap₂ (λ x y. ltb (2 * x + total (c .n) (accountsOf c l)) (2 * y)) (sumIn-same (c .n) (named m) _ _ (λ i k t. gives i k))
+-- A margin depends on what each server received and gave.
+margin-by : (c : Config) (l : Ledger) (m : ℕ) (r g : List ℕ) → ((i : ℕ) → i < c .n → getD r i 0 ≡ receivedOf l i)
+    → ((i : ℕ) → i < c .n → getD g i 0 ≡ givenOf l i) → margin (c .n) (accountsIn c r g) (named m) ≡ marginOf c l m
+unfolding marginOf total
+margin-by c l m r g takes gives =
+    margin-is (c .n) (accountsIn c r g) (named m)
+    ∙ ap₂ (λ x y. difference (2 * y) (2 * x + total (c .n) (accountsOf c l))) (sumIn-same (c .n) (named m) _ _ (λ i k t. gives i k))
     (sumIn-same (c .n) (named m) _ _ (λ i k t. ap (λ x. startOf c i + x) (takes i k)))
-    ∙ sym (quorum-is (c .n) (accountsOf c l) (named m))
+    ∙ sym (margin-is (c .n) (accountsOf c l) (named m))
 
 -- The weight of a server is its weight on the ledger.
 pub sums-weight : (c : Config) (l : Ledger) (i : ℕ) → serverOf c i ≡ true → weight (accountsIn c (table 16 (receivedOf l)) (table 16 (givenOf l))) i ≡ weightOf c l i
@@ -129,10 +129,10 @@ pub sums-above : (c : Config) (l : Ledger) → validOf c ≡ true → allAbove c
 unfolding aboveFloor
 sums-above c l v = all-same (c .n) _ _ (λ i k. ap (aboveOf c) (sums-weight c l i (valid-server c i v k)))
 
--- A map names a quorum exactly when it names one on the ledger.
-pub sums-quorum : (c : Config) (l : Ledger) (m : ℕ) → validOf c ≡ true
-    → quorum (c .n) (accountsIn c (table 16 (receivedOf l)) (table 16 (givenOf l))) (named m) ≡ quorumOf c l m
-sums-quorum c l m v = quorum-by c l m (table 16 (receivedOf l)) (table 16 (givenOf l)) (at (receivedOf l)) (at (givenOf l))
+-- The margin of a map is its margin on the ledger.
+pub sums-margin : (c : Config) (l : Ledger) (m : ℕ) → validOf c ≡ true
+    → margin (c .n) (accountsIn c (table 16 (receivedOf l)) (table 16 (givenOf l))) (named m) ≡ marginOf c l m
+sums-margin c l m v = margin-by c l m (table 16 (receivedOf l)) (table 16 (givenOf l)) (at (receivedOf l)) (at (givenOf l))
   where
     at : (f : ℕ → ℕ) (i : ℕ) → i < c .n → getD (table 16 f) i 0 ≡ f i
     at f i k = table-at 16 f i (omega (arith, valid-bounds c v .most))
@@ -166,6 +166,6 @@ pub weighs-above : (c : Config) (l : Ledger) (r g : List ℕ) → Weighs c l r g
 unfolding aboveFloor weightOf weight
 weighs-above c l r g w = all-same (c .n) _ _ (λ i h. ap₂ (λ x y. aboveOf c (difference (startOf c i + x) y)) (w .takes i h) (w .gives i h))
 
--- and a map names a quorum exactly when it names one on the ledger
-pub weighs-quorum : (c : Config) (l : Ledger) (m : ℕ) (r g : List ℕ) → Weighs c l r g → quorum (c .n) (accountsIn c r g) (named m) ≡ quorumOf c l m
-weighs-quorum c l m r g w = quorum-by c l m r g (w .takes) (w .gives)
+-- and the margin of a map is its margin on the ledger
+pub weighs-margin : (c : Config) (l : Ledger) (m : ℕ) (r g : List ℕ) → Weighs c l r g → margin (c .n) (accountsIn c r g) (named m) ≡ marginOf c l m
+weighs-margin c l m r g w = margin-by c l m r g (w .takes) (w .gives)

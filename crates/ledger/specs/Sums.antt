@@ -1,9 +1,10 @@
 -- What each server received and gave, as two lists of 16 sums: weights need no more of a ledger.
 use Prim.Native.Nat.{ℕ, _+_, _*_, _≤_, _<_}
 use mathlib.Core.Path.{_≡_}
-use mathlib.Core.Bool.{Bool, false, cond}
+use mathlib.Core.Bool.{Bool, cond}
 use mathlib.Core.List.{List}
 use lib.Dec.{eqb, ltb}
+use lib.IntN.{pos}
 use lib.ListN.{length, getD}
 use Rattle.quorums.specs.Sum.{sum, all}
 use Rattle.quorums.specs.Accounts.{Accounts, weight}
@@ -13,7 +14,7 @@ use Rattle.config.specs.declared.cluster.Config.{Config}
 use Rattle.ledger.specs.declared.ledger.Ledger.{Ledger}
 use Rattle.ledger.specs.declared.sums.Weighed.{Weighed}
 use Rattle.ledger.specs.Ledgers.{countOf, cellOf, receivedOf, givenOf}
-use Rattle.ledger.specs.Weights.{quorumOf}
+use Rattle.ledger.specs.Weights.{marginOf}
 use Rattle.ledger.specs.Checks.{checkAnswer}
 
 abbrev pub accountsIn : Config → List ℕ → List ℕ → Accounts
@@ -68,6 +69,6 @@ beyondFrom n l i = cond (ltb i n) 0 (beyond n l i)
 unfoldable pub faultsOf : ℕ → Ledger → ℕ
 faultsOf n l = sum n (rowFaults l) + sum 16 (beyondFrom n l)
 
--- what the record test finds, and whether a map names a quorum
+-- what the record test finds, and the margin of a map, 0 where the test refuses
 unfoldable pub weighedOf : Config → Ledger → ℕ → Weighed
-weighedOf c l m = record { verdict = checkAnswer c l; quorum = by-verdict (checkAnswer c l) (quorumOf c l m) (λ k. false) }
+weighedOf c l m = record { verdict = checkAnswer c l; margin = by-verdict (checkAnswer c l) (marginOf c l m) (λ k. pos 0) }

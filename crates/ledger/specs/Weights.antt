@@ -1,15 +1,13 @@
--- Weights, margins and quorums on a ledger (paper 01, "Sheets"). A cluster out of bounds, a server ≥ n and a map with a bit ≥ n are 1.
+-- Weights, margins and quorums on a ledger (paper 01, "Sheets"; paper 02, N1). A cluster out of bounds, a server ≥ n and a map with a bit ≥ n are 1.
 use Prim.Native.Nat.{ℕ}
 use mathlib.Core.Bool.{Bool, true, cond}
 use lib.IntN.{ℤ}
 use Rattle.quorums.specs.Accounts.{weight, weightIn, margin, quorum}
 use Rattle.config.specs.Cluster.{validOf, serverOf}
-use Rattle.config.specs.Answers.{decide}
 use Rattle.config.specs.declared.cluster.Config.{Config}
 use Rattle.config.specs.Refusals.{refusal}
 use Rattle.config.specs.declared.answer.Number.{Number}
 use Rattle.config.specs.declared.answer.Signed.{Signed}
-use Rattle.config.specs.declared.answer.Decision.{Decision}
 use Rattle.ledger.specs.declared.ledger.Ledger.{Ledger}
 use Rattle.ledger.specs.Ledgers.{givenOf, receivedOf, accountsOf}
 use Rattle.ledger.specs.Maps.{named, mapOf}
@@ -26,7 +24,7 @@ allOf c l = weightIn (c .n) (accountsOf c l) (λ i. true)
 unfoldable pub marginOf : Config → Ledger → ℕ → ℤ
 marginOf c l m = margin (c .n) (accountsOf c l) (named m)
 
--- whether that is above zero
+-- "Above zero is a quorum; zero and below are not" (paper 02, N1).
 unfoldable pub quorumOf : Config → Ledger → ℕ → Bool
 quorumOf c l m = quorum (c .n) (accountsOf c l) (named m)
 
@@ -44,8 +42,6 @@ weightAnswer c l i = cond (serverOf c i) (Signed.Value (weightOf c l i)) (Signed
 unfoldable pub allAnswer : Config → Ledger → Signed
 allAnswer c l = cond (validOf c) (Signed.Value (allOf c l)) (Signed.Refused (refusal 1))
 
-unfoldable pub marginAnswer : Config → Ledger → ℕ → Signed
-marginAnswer c l m = cond (mapOf c m) (Signed.Value (marginOf c l m)) (Signed.Refused (refusal 1))
-
-unfoldable pub quorumAnswer : Config → Ledger → ℕ → Decision
-quorumAnswer c l m = cond (mapOf c m) (decide (quorumOf c l m)) (Decision.Refused (refusal 1))
+-- "The quorum answer becomes a signed number: twice the weight of the map less W" (paper 02, N1).
+unfoldable pub quorumAnswer : Config → Ledger → ℕ → Signed
+quorumAnswer c l m = cond (mapOf c m) (Signed.Value (marginOf c l m)) (Signed.Refused (refusal 1))

@@ -1,4 +1,5 @@
 // The record test in one pass over the rows of a ledger, and the sums that it leaves for what follows in the same call: what each server received and gave.
+use super::balance::difference;
 use super::join::both;
 use super::ledger::wide;
 use super::ledger::wide16;
@@ -16,19 +17,20 @@ ghost use Rattle.quorums.specs.Sum.{sum};
 ghost use Rattle.config.specs.Cluster.{validOf, leastOf};
 ghost use Rattle.config.specs.declared.answer.Verdict.{Verdict as VerdictOf};
 ghost use Rattle.ledger.specs.Ledgers.{ledgerOf};
-ghost use Rattle.quorums.specs.Accounts.{quorum};
+ghost use Rattle.quorums.specs.Accounts.{margin};
 ghost use Rattle.ledger.specs.Maps.{named};
 ghost use Rattle.ledger.specs.Checks.{checkAnswer};
 ghost use Rattle.ledger.specs.Tables.{table};
 ghost use Rattle.ledger.specs.Sums.{Sums, Weighs, accountsIn, allAbove, under as underOf, receivedFrom, givenBelow, filledRow, rowFaults, beyondFrom, faultsOf, weighedOf};
 
-// What the record test finds of a ledger, and whether the servers that a map names are a quorum on it, which they are not where it is refused.
+// What the record test finds of a ledger, and the margin of a map on it: twice the weight of the servers that it names, less W; 0 where the ledger is
+// refused. They are a quorum where it is above zero.
 pub struct Weighed {
     pub verdict: Verdict,
-    pub quorum: bool,
+    pub margin: i64,
 }
 
-// The record test of a ledger that is lent as its counts and cells, wherever it lies, and a quorum by the sums that the test leaves.
+// The record test of a ledger that is lent as its counts and cells, wherever it lies, and the margin of a map by the sums that the test leaves.
 pub fn weigh_lent(counts: &[u16; 16], cells: &[u32; 256], config: Config, map: u16) -> Weighed
     ensures { λ r. ⌜ r ≡ weighedOf config (ledgerOf (now (counts .entry)) (now (cells .entry))) map ⌝ }
 {
@@ -37,11 +39,11 @@ pub fn weigh_lent(counts: &[u16; 16], cells: &[u32; 256], config: Config, map: u
     match weigh(counts, cells, config, &mut received, &mut given) {
         Verdict::Accepted => Weighed {
             verdict: Verdict::Accepted,
-            quorum: is_quorum(config, &received, &given, map),
+            margin: margin_of(config, &received, &given, map),
         },
         Verdict::Refused(r) => Weighed {
             verdict: Verdict::Refused(r),
-            quorum: false,
+            margin: 0,
         },
     }
 }
@@ -213,13 +215,13 @@ fn above(config: Config, least: u64, received: &[u64], given: &[u64]) -> bool
     true
 }
 
-// Whether the servers that a map names are a quorum: whether twice what they hold is above twice what they gave and W.
-fn is_quorum(config: Config, received: &[u64], given: &[u64], map: u16) -> bool
+// Twice the weight of the servers that a map names, less W: twice what they hold, less twice what they gave and W.
+fn margin_of(config: Config, received: &[u64], given: &[u64], map: u16) -> i64
     requires { ⌜ (validOf config ≡ true) × Sums 68719476720 (now received) × Sums 68719476720 (now given) ⌝ }
-    ensures { λ r. ⌜ r ≡ quorum (config .n) (accountsIn config (now (received .entry)) (now (given .entry))) (named map) ⌝ }
+    ensures { λ r. ⌜ r ≡ margin (config .n) (accountsIn config (now (received .entry)) (now (given .entry))) (named map) ⌝ }
 {
     let Number::Value(total) = config.total() else {
-        return false;
+        return 0;
     };
     let n = config.n as usize;
     let mut held: u64 = 0;
@@ -233,5 +235,5 @@ fn is_quorum(config: Config, received: &[u64], given: &[u64], map: u16) -> bool
         }
         i += 1;
     }
-    2 * gave + total < 2 * held
+    difference(2 * held, 2 * gave + total)
 }

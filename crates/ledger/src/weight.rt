@@ -1,4 +1,4 @@
-// Weights, the margin of a map, and quorums (paper 01, "Sheets").
+// Weights, and the number that says whether a map is a quorum (paper 01, "Sheets"; paper 02, N1).
 use super::balance::balance_in;
 use super::balance::balance_of;
 use super::balance::difference;
@@ -6,7 +6,6 @@ use super::ledger::Ledger;
 use super::ledger::line;
 use super::map::within;
 use config::Config;
-use config::Decision;
 use config::Number;
 use config::Refusal;
 use config::Signed;
@@ -14,7 +13,7 @@ ghost use mathlib.Core.Path.{_≡_};
 ghost use mathlib.Core.List.{[]};
 ghost use lib.ListN.{length};
 ghost use Rattle.ledger.specs.Ledgers.{ledgerOf};
-ghost use Rattle.ledger.specs.Weights.{givenAnswer, receivedAnswer, weightAnswer, allAnswer, marginAnswer, quorumAnswer};
+ghost use Rattle.ledger.specs.Weights.{givenAnswer, receivedAnswer, weightAnswer, allAnswer, quorumAnswer};
 
 impl Ledger {
     // What a server gave in all.
@@ -61,38 +60,18 @@ impl Ledger {
         Signed::Value(difference(b.held, b.given))
     }
 
-    // Twice the weight of the servers that a map names, less W.
-    pub fn margin(self, config: Config, map: u16) -> Signed
-        ensures { λ r. ⌜ r ≡ marginAnswer config self map ⌝ }
-    {
-        margin_in(&self.cells, config, map)
-    }
-
-    // Whether the servers that a map names are a quorum: whether the margin is above zero.
-    pub fn quorum(self, config: Config, map: u16) -> Decision
+    // Twice the weight of the servers that a map names, less W: above zero they are a quorum, and at zero and below they are not.
+    pub fn quorum(self, config: Config, map: u16) -> Signed
         ensures { λ r. ⌜ r ≡ quorumAnswer config self map ⌝ }
     {
-        quorum_lent(&self.cells, config, map)
+        quorum_in(&self.cells, config, map)
     }
 }
 
-// A quorum is a matter of the cells alone.
-fn quorum_lent(cells: &[u32; 256], config: Config, map: u16) -> Decision
-    ensures { λ r. ⌜ r ≡ quorumAnswer config (ledgerOf [] (now (cells .entry))) map ⌝ }
-{
-    let Signed::Value(margin) = margin_in(cells, config, map) else {
-        return Decision::Refused(Refusal::BadHouse);
-    };
-    if 0 < margin {
-        return Decision::Yes;
-    }
-    Decision::No
-}
-
-// The margin is a matter of the cells alone.
-fn margin_in(cells: &[u32], config: Config, map: u16) -> Signed
+// That number is a matter of the cells alone.
+fn quorum_in(cells: &[u32], config: Config, map: u16) -> Signed
     requires { ⌜ length (now cells) ≡ 256 ⌝ }
-    ensures { λ r. ⌜ r ≡ marginAnswer config (ledgerOf [] (now (cells .entry))) map ⌝ }
+    ensures { λ r. ⌜ r ≡ quorumAnswer config (ledgerOf [] (now (cells .entry))) map ⌝ }
 {
     if !within(config, map) {
         return Signed::Refused(Refusal::BadHouse);

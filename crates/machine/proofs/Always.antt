@@ -51,7 +51,7 @@ step-keeps c valid h s inv st =
       asks = λ d i place size o a e at f l. asks-kept inv d (wrote a) o i;
       drops = λ d o e at f. drops-kept inv d;
       restarts = λ d k m o x i room. restarts-kept inv d o m (nth-in (s .sent) k m (x .sent)) (x .hearing);
-      marks = λ d k m o x i. marks-kept inv d o m (nth-in (s .sent) k m (x .sent)) (x .hearing);
+      marks = λ d k m o x i q. marks-kept inv d o m (nth-in (s .sent) k m (x .sent)) (x .hearing);
       chooses = λ d k m o x i q f room w. chooses-kept inv d o m (nth-in (s .sent) k m (x .sent)) (x .hearing);
       ends = λ d k m o g x i q f. ends-kept inv d o m (nth-in (s .sent) k m (x .sent)) (x .hearing) g;
     })

@@ -5,17 +5,17 @@ use Rattle.quorums.specs.Accounts.{weight, total, weightIn, margin, quorum, abo
 use Rattle.config.specs.Cluster.{validOf, startOf, totalOf, aboveOf, stampBytes, mostStamp}
 use Rattle.format.specs.Bytes.{bytes, number, series, stands, marks, bit}
 use Rattle.format.specs.Table.{registerMark, register, cellMap, cells, rowMark, row, rowMap, rows, sheet, fieldMap, fieldMapOf, head, note, encodeFields}
-use Rattle.machine.specs.Sets.{same, has, includes, missing, union, tally, count, cell, given, received, weightOf, quorumOf}
+use Rattle.machine.specs.Sets.{same, has, includes, missing, union, tally, count, cell, given, received, weightOf, marginOf, quorumOf}
 use Rattle.machine.specs.Parties.{below, higher, join, bytesOf, answered}
 use Rattle.machine.specs.Runs.{onServer, onDesk, onCrash, take, at, answerAt, inTurn}
-use Rattle.machine.specs.Calls.{send, transferBy, shareBy, serveBy, answerRequest, beginBy, askBy, hearBy, restart, choose, mark, resultBy, dropBy}
+use Rattle.machine.specs.Calls.{send, transferBy, shareBy, serveBy, answerRequest, beginBy, askBy, hearBy, restart, choose, mark, resultBy, dropBy, marginBy}
 use Rattle.machine.specs.Seen.{hears, heard}
 use Rattle.machine.specs.Views.{restartsMade, gain}
 
 -- all that a run computes through
 unfoldable pub computing : Unit {0}
 unfolding inTurn answerAt at take onServer onDesk onCrash send transferBy shareBy serveBy answerRequest beginBy askBy hearBy restart choose mark resultBy
-    dropBy join higher below union missing includes has same tally count cell given received weightOf quorumOf answered bytesOf quorum margin weightIn
+    dropBy marginBy join higher below union missing includes has same tally count cell given received weightOf marginOf quorumOf answered bytesOf quorum margin weightIn
     weight total validOf startOf totalOf aboveOf above stampBytes mostStamp sumℤ sum sumIn size all difference encodeFields bytes number series stands marks
     bit registerMark register cellMap cells rowMark row rowMap rows sheet fieldMap fieldMapOf head note hears heard restartsMade gain
 computing = tt

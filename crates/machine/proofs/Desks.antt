@@ -33,6 +33,7 @@ pub record DeskMoves (r : PlainRun) (d k : ℕ) (x : Desk) (P : Transfers → De
       → x .round < mostRound
       → P (m .replica .set) (restarted x o m)
   pub marks : (p : ℕ) (m : Message) (o : Operation) → Heard (at r k) (hear d p) d p m o → knows x m ≡ true
+      → quorumOf (r .config) (join (x .replica) (m .replica) .set) (answered (m ∷ o .heard)) ≡ false
       → P (m .replica .set) (marked x o (join (x .replica) (m .replica)) m)
   pub chooses : (p : ℕ) (m : Message) (o : Operation) → Heard (at r k) (hear d p) d p m o → knows x m ≡ true
       → quorumOf (r .config) (join (x .replica) (m .replica) .set) (answered (m ∷ o .heard)) ≡ true
@@ -164,12 +165,13 @@ module _ (c : Config) (steps : List Step) (d k : ℕ) (P : Transfers → Desk �
               (i, room)
               (λ g f. m .restarts p n o g (f .0) (f .1));
           marks =
-              λ e p n o h i z.
-              hearing-by e p n o (λ y. knows (s .desks y) n ≡ true)
+              λ e p n o h i q z.
+              hearing-by e p n o
+              (λ y. (knows (s .desks y) n ≡ true) × (quorumOf c (join (s .desks y .replica) (n .replica) .set) (answered (n ∷ o .heard)) ≡ false))
               (λ y. marked (s .desks y) o (join (s .desks y .replica) (n .replica)) n)
               h
-              i
-              (λ g f. m .marks p n o g f);
+              (i, q)
+              (λ g f. m .marks p n o g (f .0) (f .1));
           chooses =
               λ e p n o h i q f room w z.
               hearing-by e p n o

@@ -176,7 +176,7 @@ module _ (a : Register) (S : Transfers) (q : ℕ → Bool) (rounds : ℕ → ℕ
         asks = λ d i place size o n e at g l. asks-follows f d (wrote n) o i;
         drops = λ d o e at g. quiet f d (dropped (s .desks d)) (λ z. tt);
         restarts = λ d k m o x i room. quiet f d (restarted (s .desks d) o m) (λ g n z. absurd z);
-        marks = λ d k m o x i.
+        marks = λ d k m o x i q.
             quiet f d (marked (s .desks d) o (join (s .desks d .replica) (m .replica)) m)
             (λ g. heard-seen f d o m (nth-in (s .sent) k m (x .sent)) (x .hearing) g);
         chooses = λ d k m o x i z g room w. quiet f d (moved-on d (s .desks d) o (join (s .desks d .replica) (m .replica))) (λ e n y. absurd y);

@@ -22,8 +22,9 @@ pub mod Joins
 pub mod Closed
 pub mod Numbers
 pub mod QuestionFour
--- Operations: where they begin and end, their phases, results and restarts; where each register comes from, and values.
+-- Operations: where they begin and end, what they wait for, their phases, results and restarts; where each register comes from, and values.
 pub mod Performed
+pub mod Waiting
 pub mod Phases
 pub mod Registers
 pub mod Results

@@ -125,6 +125,7 @@ pub record Moves (c : Config) (s : PlainState) (st : Step) (P : History → Plai
       → s .desks d .round < mostRound
       → P [] (made done (afterDesk s d (accept done (restarted (s .desks d) o m))))
   pub marks : (d k : ℕ) (m : Message) (o : Operation) → Heard s st d k m o → knows (s .desks d) m ≡ true
+      → quorumOf c (join (s .desks d .replica) (m .replica) .set) (answered (m ∷ o .heard)) ≡ false
       → P [] (made done (afterDesk s d (accept done (marked (s .desks d) o (join (s .desks d .replica) (m .replica)) m))))
   pub chooses : (d k : ℕ) (m : Message) (o : Operation) → Heard s st d k m o → knows (s .desks d) m ≡ true
       → quorumOf c (join (s .desks d .replica) (m .replica) .set) (answered (m ∷ o .heard)) ≡ true

@@ -51,7 +51,7 @@ module _ (c : Config) (valid : validOf c ≡ true) (steps : List Step) where
         begins = λ t note b l rests room. omega arith;
         drops = λ o e. omega arith;
         restarts = λ p m o h i room. omega arith;
-        marks = λ p m o h i. omega arith;
+        marks = λ p m o h i q. omega arith;
         chooses = λ p m o h i q f room w. omega arith;
         ends = λ p m o g s h i q f. omega arith;
       })
@@ -139,7 +139,7 @@ module _ (c : Config) (valid : validOf c ≡ true) (steps : List Step) where
           begins = λ v note b s rests room. absurd (none-here v b);
           drops = λ o f. (raised, tt);
           restarts = λ p m o h i room. (omega arith, running-stage o (h .hearing .runs));
-          marks = λ p m o h i. (raised, running-stage o (h .hearing .runs));
+          marks = λ p m o h i q. (raised, running-stage o (h .hearing .runs));
           chooses = λ p m o h i on f room w.
               let s = running-stage o (h .hearing .runs) in
               let no-lower : x .register ≼ join (deskAt r e q .replica) (m .replica) .register =

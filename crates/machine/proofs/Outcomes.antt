@@ -128,6 +128,7 @@ pub record HearCases (c : Config) (d : ℕ) (x : Desk) (m : Message) (P : Outcom
   pub restarts : (o : Operation) → Hearing d x m o → knows x m ≡ false → x .round < mostRound
       → P (accept done (restarted x o m))
   pub marks : (o : Operation) → Hearing d x m o → knows x m ≡ true
+      → quorumOf c (join (x .replica) (m .replica) .set) (answered (m ∷ o .heard)) ≡ false
       → P (accept done (marked x o (join (x .replica) (m .replica)) m))
   pub chooses : (o : Operation) → Hearing d x m o → knows x m ≡ true
       → quorumOf c (join (x .replica) (m .replica) .set) (answered (m ∷ o .heard)) ≡ true
@@ -162,7 +163,7 @@ module _ {c : Config} {d : ℕ} {x : Desk} {m : Message} (P : Outcome Message De
   mark-outcome o e i =
       branch P (quorumOf c (join (x .replica) (m .replica) .set) (answered (m ∷ o .heard))) _ _
       (λ q. phase-cases P (o .phase) _ _ (λ f. choose-outcome o e i q f) (λ g f. h .ends o g e i q f))
-      (λ q. h .marks o e i)
+      (λ q. h .marks o e i q)
 
   pub hear-cases : P (hearBy c d x m)
   unfolding hearBy

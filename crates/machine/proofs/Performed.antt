@@ -257,7 +257,7 @@ module _ (c : Config) (steps : List Step) where
           begins = λ t note b l rests room e. record { begun = k; current = current-new b };
           drops = λ o f e. tt;
           restarts = λ p m o f i room e. goes-on o (f .hearing .runs) h;
-          marks = λ p m o f i e. goes-on o (f .hearing .runs) h;
+          marks = λ p m o f i q e. goes-on o (f .hearing .runs) h;
           chooses = λ p m o f i q g room w e. goes-on o (f .hearing .runs) h;
           ends = λ p m o g s f i q z e. comes-to-end p o _ s (f .seated) (f .hearing .runs) (ap (λ y. y .activity) (sym e)) h;
         })

@@ -54,7 +54,7 @@ module _ (c : Config) (steps : List Step) where
         begins = λ t note b l rests room. absurd (n t b);
         drops = λ o e. tt;
         restarts = λ p m o f i room. phase o (f .hearing .runs);
-        marks = λ p m o f i. phase o (f .hearing .runs);
+        marks = λ p m o f i q. phase o (f .hearing .runs);
         chooses = λ p m o f i q e room w. absurd (apart o (phase o (f .hearing .runs)) e);
         ends = λ p m o y s f i q e. sym (one o (phase o (f .hearing .runs)) e);
       })
@@ -94,7 +94,7 @@ module _ (c : Config) (steps : List Step) where
         begins = λ u note b l rests room e. absurd (running-ended refl e);
         drops = λ o f e. absurd (idle-ended e);
         restarts = λ p m o f i room e. absurd (running-ended refl e);
-        marks = λ p m o f i e. absurd (running-ended refl e);
+        marks = λ p m o f i q e. absurd (running-ended refl e);
         chooses = λ p m o f i q g room w e. absurd (running-ended refl e);
         ends = λ p m o g s f i q z e. finish o g m (nth-in (at r k .sent) p m (f .sent)) (f .hearing) q z e;
       })

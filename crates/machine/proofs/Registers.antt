@@ -66,7 +66,7 @@ module _ (c : Config) (steps : List Step) where
         begins = λ t note b l e m. tag-refl (heldAt d k);
         drops = λ o e. tag-refl (heldAt d k);
         restarts = λ p m o h i room. join-left (x .replica) (m .replica);
-        marks = λ p m o h i. join-left (x .replica) (m .replica);
+        marks = λ p m o h i q. join-left (x .replica) (m .replica);
         chooses =
             λ p m o h i q f room w.
             tag-trans _ _ _ (join-left (x .replica) (m .replica)) (chosen-above d (o .task) (join (x .replica) (m .replica) .register));
@@ -94,7 +94,7 @@ module _ (c : Config) (steps : List Step) where
         begins = λ u note n l e m. absurd (none u n);
         drops = λ o e. record { held = g .held; doing = tt };
         restarts = λ p m o h i room. record { held = up (m .replica); doing = later o (m .replica) (h .hearing .runs) };
-        marks = λ p m o h i. record { held = up (m .replica); doing = later o (m .replica) (h .hearing .runs) };
+        marks = λ p m o h i q. record { held = up (m .replica); doing = later o (m .replica) (h .hearing .runs) };
         chooses =
             λ p m o h i q f room w.
             let j = join (x .replica) (m .replica) .register in

@@ -96,7 +96,7 @@ module _ {c : Config} {h : History} {s : PlainState} (inv : Invariant c h s) (p 
             (put-cases (Covers (requestOf d (s .desks d) o i)) (s .desks) d (s .desks d) d (λ z ns q t k. k) (λ z. absurd (z refl)));
         drops = λ d o e at f. quiet d _ (same (s .desks d));
         restarts = λ d k m o x i room. quiet d _ (inl refl);
-        marks = λ d k m o x i. quiet d _ (inr (refl, joined-nothing (s .desks d .replica) (m .replica) i));
+        marks = λ d k m o x i q. quiet d _ (inr (refl, joined-nothing (s .desks d .replica) (m .replica) i));
         chooses = λ d k m o x i q f room w. quiet d _ (inl refl);
         ends = λ d k m o g x i q f. quiet d _ (inr (refl, joined-nothing (s .desks d .replica) (m .replica) i));
       })

@@ -59,7 +59,7 @@ module _ (c : Config) (steps : List Step) where
         begins = λ u note b l rests room. or-false (has (deskAt r d k .replica .set) t);
         drops = λ o e. or-false (has (deskAt r d k .replica .set) t);
         restarts = λ p m o f i room. has-union (deskAt r d k .replica .set) (m .replica .set) t;
-        marks = λ p m o f i. has-union (deskAt r d k .replica .set) (m .replica .set) t;
+        marks = λ p m o f i q. has-union (deskAt r d k .replica .set) (m .replica .set) t;
         chooses = λ p m o f i q g room w. has-union (deskAt r d k .replica .set) (m .replica .set) t;
         ends = λ p m o g s f i q z. has-union (deskAt r d k .replica .set) (m .replica .set) t;
       })
@@ -118,7 +118,7 @@ module _ (c : Config) (steps : List Step) where
         begins = λ u note b l rests room. absurd (none-here u b);
         drops = λ o e. tt;
         restarts = λ p m o f i room. omega (arith, so-far o (f .hearing .runs), brings-more (deskAt r d k .replica .set) (m .replica .set) i);
-        marks = λ p m o f i. goes-on o m (f .hearing .runs) i;
+        marks = λ p m o f i q. goes-on o m (f .hearing .runs) i;
         chooses = λ p m o f i q g room w. goes-on o m (f .hearing .runs) i;
         ends = λ p m o g s f i q z. goes-on o m (f .hearing .runs) i;
       })
@@ -188,7 +188,7 @@ module _ (c : Config) (steps : List Step) where
         begins = λ u note b l rests room. omega arith;
         drops = λ o e. omega arith;
         restarts = λ p m o f i room. union-size (deskAt r d k .replica .set) (m .replica .set);
-        marks = λ p m o f i. union-size (deskAt r d k .replica .set) (m .replica .set);
+        marks = λ p m o f i q. union-size (deskAt r d k .replica .set) (m .replica .set);
         chooses = λ p m o f i q g room w. union-size (deskAt r d k .replica .set) (m .replica .set);
         ends = λ p m o g s f i q z. union-size (deskAt r d k .replica .set) (m .replica .set);
       })
@@ -227,7 +227,7 @@ module _ (c : Config) (steps : List Step) where
         asks = λ d i place size o next e at f l. apart (wrote next) refl;
         drops = λ d o e at f. apart done refl;
         restarts = λ d k m o f i room. apart done refl;
-        marks = λ d k m o f i. apart done refl;
+        marks = λ d k m o f i q. apart done refl;
         chooses = λ d k m o f i g e room w. apart done refl;
         ends = λ d k m o g f i z e. apart done refl;
       }))

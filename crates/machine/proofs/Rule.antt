@@ -189,7 +189,7 @@ module _ (c : Config) (valid : validOf c ≡ true) (steps : List Step) (k i : �
         asks = λ d x place size o a e seated f l z. same;
         drops = λ d o e seated f z. same;
         restarts = λ d p m o x e room z. same;
-        marks = λ d p m o x e z. same;
+        marks = λ d p m o x e q z. same;
         chooses = λ d p m o x e q f room w z. same;
         ends = λ d p m o g x e q f z. same;
       })

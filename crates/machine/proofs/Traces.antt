@@ -110,7 +110,7 @@ module _ (c : Config) (steps : List Step) where
         asks = λ d i place size o next f seated runs l. (h .servers, sent-one r (s .sent) _ (h .sent) (h .desks d .replica));
         drops = λ d o f seated runs. quiet;
         restarts = λ d p m o f i room. quiet;
-        marks = λ d p m o f i. quiet;
+        marks = λ d p m o f i q. quiet;
         chooses = λ d p m o f i q g room w. quiet;
         ends = λ d p m o g f i q w. quiet;
       }))
@@ -151,7 +151,7 @@ module _ (c : Config) (steps : List Step) where
         begins = λ t note b l rests room e. record { replica = now .replica; activity = tt };
         drops = λ o f e. record { replica = now .replica; activity = tt };
         restarts = λ p m o g i room e. record { replica = joined p m (g .sent); activity = phase o (g .hearing .runs) };
-        marks = λ p m o g i e. record { replica = joined p m (g .sent); activity = phase o (g .hearing .runs) };
+        marks = λ p m o g i q e. record { replica = joined p m (g .sent); activity = phase o (g .hearing .runs) };
         chooses =
             λ p m o g i q f room w e.
             let new : Traced r (chosen d (o .task) (join (x .replica) (m .replica) .register)) =

@@ -203,7 +203,7 @@ module _ {c : Config} {s : PlainState} (k : Kept c s) where
               activity = goes-on d o (x .hearing .runs) (o .phase) [] _ _ (omega arith) (omega (arith, from .restarts)) (λ n q. absurd q) (from .stamp);
             });
         marks =
-            λ d p m o x i.
+            λ d p m o x i short.
             let from = now d o (x .hearing .runs) in
             quiet d (marked (s .desks d) o (join (s .desks d .replica) (m .replica)) m)
             (record {

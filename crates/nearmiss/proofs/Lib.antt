@@ -1,4 +1,4 @@
--- Theorems: how runs compute; runs of the plain machine, and its numbers; then the wrong stores that come close (paper 01), each refuted.
+-- Theorems: how runs compute; runs of the plain machine, and its numbers; then the wrong stores that come close (paper 01; paper 02, N1), each refuted.
 pub mod Answers
 pub mod Computing
 pub mod Shown
@@ -13,3 +13,4 @@ pub mod FixedTag
 pub mod NoRestarts
 pub mod Unequal
 pub mod SpentEarly
+pub mod HalfWeight

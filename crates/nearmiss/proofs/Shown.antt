@@ -3,12 +3,14 @@ use Prim.Native.Nat.{ℕ}
 use mathlib.Core.Path.{_≡_, refl}
 use mathlib.Core.Bool.{Bool, true, false, cond}
 use mathlib.Core.List.{[], _∷_, _++_}
+use mathlib.Core.Option.{Option, none, some}
 use lib.Dec.{eqb}
-use lib.IntN.{pos}
+use lib.IntN.{ℤ, pos, negsuc}
 use Rattle.config.specs.Cluster.{level}
 use Rattle.machine.specs.Sets.{weightOf, quorumOf}
 use Rattle.machine.specs.Parties.{start, read, write, first, second, running, Result}
 use Rattle.machine.specs.Runs.{done, told, answerAt, deskAt}
+use Rattle.machine.specs.Calls.{marginBy}
 use Rattle.machine.specs.Steps.{begin, ask, serve, result, drop, transfer, share, machine, PlainRun}
 use Rattle.machine.specs.Seen.{viewOf}
 use Rattle.machine.specs.Views.{Ends, Chose, restartsMade, gain}
@@ -60,6 +62,39 @@ read-across =
       heavier = refl;
       quorum-now = refl;
       no-quorum-before = refl;
+    }
+
+-- ---- what desk staff see of it (paper 02, N1)
+
+-- desk d after the first k steps
+abbrev pub watched : ℕ → ℕ → Option ℤ
+watched d k = marginBy (level 4 1) (deskAt across d k)
+
+pub record Watched : Type 0 where
+  -- desk 1's write: before it begins, with nobody, with one server of four and with two
+  pub before : watched 1 0 ≡ none
+  pub nobody : watched 1 1 ≡ some (negsuc 3999)
+  pub one : watched 1 4 ≡ some (negsuc 1999)
+  pub half : watched 1 7 ≡ some (pos 0)
+  -- a third ends phase 1, and phase 2 begins with nobody; once the write has ended there is nothing to see
+  pub next-phase : watched 1 10 ≡ some (negsuc 3999)
+  pub after : watched 1 19 ≡ none
+  -- desk 2's read: it has restarted, on the sheet on which server 3 weighs 1,333, which then answers
+  pub restarted : watched 2 26 ≡ some (negsuc 3999)
+  pub heavier-alone : watched 2 29 ≡ some (negsuc 1333)
+
+pub watch-across : Watched
+unfolding computing
+watch-across =
+    record {
+      before = refl;
+      nobody = refl;
+      one = refl;
+      half = refl;
+      next-phase = refl;
+      after = refl;
+      restarted = refl;
+      heavier-alone = refl;
     }
 
 -- ---- a read returns the value of a dropped write

@@ -1,4 +1,5 @@
--- Definitions: how runs are written here, the parts that a store can change, and the wrong stores that come close (paper 01), in its order.
+-- Definitions: how runs are written here, the parts that a store can change, and the wrong stores that come close: those of paper 01 in its order, and one
+-- of paper 02, N1.
 pub mod Steps
 pub mod Parts
 pub mod SheetAlone
@@ -14,3 +15,4 @@ pub mod SpentEarly
 pub mod FixedTag
 pub mod NoRestarts
 pub mod HeadCount
+pub mod HalfWeight

@@ -31,6 +31,29 @@ difference-same a b c d e =
     (λ (h : a < b). difference-down a b h ∙ ap negsuc (omega arith) ∙ sym (difference-down c d (omega arith)))
     (le-or-lt b a)
 
+-- and only then
+pub difference-back : (a b c d : ℕ) → difference a b ≡ difference c d → a + d ≡ c + b
+difference-back a b c d e =
+    ⊎-elim
+    (λ (h : b ≤ a).
+    ⊎-elim (λ (k : d ≤ c). up h k (sym (difference-up a b h) ∙ e ∙ difference-up c d k))
+    (λ (k : c < d). apart (sym (difference-up a b h) ∙ e ∙ difference-down c d k))
+    (le-or-lt d c))
+    (λ (h : a < b).
+    ⊎-elim (λ (k : d ≤ c). apart (sym (difference-up c d k) ∙ sym e ∙ difference-down a b h))
+    (λ (k : c < d). down h k (sym (difference-down a b h) ∙ e ∙ difference-down c d k))
+    (le-or-lt d c))
+    (le-or-lt b a)
+  where
+    up : b ≤ a → d ≤ c → pos (a - b) ≡ pos (c - d) → a + d ≡ c + b
+    up h k same = let z : a - b ≡ c - d = cc in omega arith
+
+    down : a < b → c < d → negsuc (b - suc a) ≡ negsuc (d - suc c) → a + d ≡ c + b
+    down h k same = let z : b - suc a ≡ d - suc c = cc in omega arith
+
+    apart : {x y : ℕ} → pos x ≡ negsuc y → a + d ≡ c + b
+    apart same = let z : _≡_ {A = ℕ} 0 1 = cc in absurd (omega arith)
+
 pub pos-difference : (a : ℕ) → pos a ≡ difference a 0
 pos-difference a = ap pos (omega arith) ∙ sym (difference-up a 0 (omega arith))
 

@@ -1,7 +1,8 @@
--- Laws, in reading order: tests, sums, differences, weights, two quorums that meet, and the published rule.
+-- Laws, in reading order: tests, sums, differences, weights, what a margin tells, two quorums that meet, and the published rule.
 pub mod Tests
 pub mod Sums
 pub mod Differences
 pub mod Weights
+pub mod Margins
 pub mod Meeting
 pub mod Rule

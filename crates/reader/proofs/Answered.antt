@@ -6,15 +6,13 @@ use mathlib.Core.Bool.{true, false}
 use mathlib.Core.List.{List}
 use lib.ListN.{length}
 use borrow.Author.Tests.{eq-eqb, ne-eqb, le-ltb}
-use Rattle.quorums.specs.Accounts.{weight, quorum}
+use Rattle.quorums.specs.Accounts.{weight, margin}
 use Rattle.config.specs.Cluster.{validOf, serverOf}
 use Rattle.config.specs.Refusals.{mostRefusal, refusal}
 use Rattle.config.specs.declared.answer.Refusal.{Refusal}
 use Rattle.config.specs.declared.answer.Verdict.{Verdict}
-use Rattle.config.specs.Answers.{decide}
 use Rattle.config.specs.declared.cluster.Config.{Config}
 use Rattle.config.specs.declared.answer.Signed.{Signed}
-use Rattle.config.specs.declared.answer.Decision.{Decision}
 use Rattle.format.specs.Bytes.{bit}
 use Rattle.ledger.specs.Ledgers.{freshLedger, receivedOf, givenOf, Typed}
 use Rattle.ledger.specs.Maps.{named, mapOf}
@@ -35,7 +33,7 @@ use Rattle.message.proofs.SheetBacks.{ledger-typed}
 use Rattle.reader.specs.Weighings.{weightIn, quorumIn}
 use Rattle.ledger.specs.Sums.{Sums, accountsIn}
 use Rattle.reader.specs.Sums.{SheetSums}
-use Rattle.ledger.proofs.Weights.{received-sums, given-sums, sums-weight, sums-quorum}
+use Rattle.ledger.proofs.Weights.{received-sums, given-sums, sums-weight, sums-margin}
 
 -- ---- the number of the check
 
@@ -167,14 +165,14 @@ module _ (c : Config) (msg : List ℕ) {received given : List ℕ} (passed : che
       rw (eq-eqb (check c msg) 0 passed, s)
       (ap Signed.Value (ap₂ (λ r g. weight (accountsIn c r g) i) (sums .takes) (sums .gives) ∙ sums-weight c _ i s))
 
-  -- whether a map names a quorum
-  pub quorum-answered : (m : ℕ) → mapOf c m ≡ true → decide (quorum (c .n) (accountsIn c received given) (named m)) ≡ quorumIn c m msg
+  -- the margin of a map
+  pub quorum-answered : (m : ℕ) → mapOf c m ≡ true → Signed.Value (margin (c .n) (accountsIn c received given) (named m)) ≡ quorumIn c m msg
   unfolding quorumIn quorumAnswer
   quorum-answered m e =
       let sums = found passed in
       rw (eq-eqb (check c msg) 0 passed, e)
-      (ap decide
-      (ap₂ (λ r g. quorum (c .n) (accountsIn c r g) (named m)) (sums .takes) (sums .gives) ∙ sums-quorum c _ m (check-told c msg passed .0)))
+      (ap Signed.Value
+      (ap₂ (λ r g. margin (c .n) (accountsIn c r g) (named m)) (sums .takes) (sums .gives) ∙ sums-margin c _ m (check-told c msg passed .0)))
 
 -- a server that there isn't, and a map with a bit from n on
 
@@ -182,6 +180,6 @@ pub server-refused : (c : Config) (i : ℕ) (msg : List ℕ) → check c msg ≡
 unfolding weightIn weightAnswer serverOf
 server-refused c i msg e h = simp (e, check-told c msg e .0, le-ltb i (c .n) h)
 
-pub map-refused : (c : Config) (m : ℕ) (msg : List ℕ) → check c msg ≡ 0 → mapOf c m ≡ false → Decision.Refused (refusal 1) ≡ quorumIn c m msg
+pub map-refused : (c : Config) (m : ℕ) (msg : List ℕ) → check c msg ≡ 0 → mapOf c m ≡ false → Signed.Refused (refusal 1) ≡ quorumIn c m msg
 unfolding quorumIn quorumAnswer
 map-refused c m msg e n = simp (e, n)

@@ -3,13 +3,12 @@ use super::scan::finish;
 use super::scan::refusal;
 use super::scan::scan;
 use super::scan::weigh_message;
-use super::sums::is_quorum;
+use super::sums::margin_of;
 use super::sums::weight_of;
 use super::whole::register_in;
 use super::whole::taken_in;
 use super::whole::untaken;
 use config::Config;
-use config::Decision;
 use config::Refusal;
 use config::Signed;
 use config::Verdict;
@@ -129,21 +128,19 @@ pub fn weight(config: Config, server: u64, msg: &[u8]) -> Signed
     Signed::Value(weight_of(config, &received, &given, server))
 }
 
-// Whether the servers that a map names are a quorum on a message's sheet: the refusal that `check` gives, then 1 for the map.
-pub fn quorum(config: Config, map: u64, msg: &[u8]) -> Decision
+// Twice the weight of the servers that a map names on a message's sheet, less W, which is above zero where they are a quorum: the refusal that `check`
+// gives, then 1 for the map.
+pub fn quorum(config: Config, map: u64, msg: &[u8]) -> Signed
     ensures { λ r. ⌜ r ≡ quorumIn config map (now (msg .entry)) ⌝ }
 {
     let mut received: [u64; 16] = [0; 16];
     let mut given: [u64; 16] = [0; 16];
     if let Verdict::Refused(r) = weigh_message(config, msg, &mut received, &mut given) {
-        return Decision::Refused(r);
+        return Signed::Refused(r);
     }
     let n = config.n as u32;
     if map >> n != 0 {
-        return Decision::Refused(Refusal::BadHouse);
+        return Signed::Refused(Refusal::BadHouse);
     }
-    if is_quorum(config, &received, &given, map) {
-        return Decision::Yes;
-    }
-    Decision::No
+    Signed::Value(margin_of(config, &received, &given, map))
 }

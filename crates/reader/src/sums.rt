@@ -1,10 +1,10 @@
-// Weights, from what each server received and gave.
+// Weights and margins, from what each server received and gave.
 use super::cursor::bit;
 use config::Config;
 use config::Number;
 ghost use mathlib.Core.Path.{_≡_};
 ghost use mathlib.Core.Bool.{true};
-ghost use Rattle.quorums.specs.Accounts.{weight as weightOf, quorum as quorumOf};
+ghost use Rattle.quorums.specs.Accounts.{weight as weightOf, margin};
 ghost use Rattle.config.specs.Cluster.{validOf, serverOf};
 ghost use Rattle.ledger.specs.Maps.{named};
 ghost use Rattle.ledger.specs.Sums.{accountsIn, allAbove, Sums};
@@ -38,14 +38,14 @@ pub(crate) fn weight_of(config: Config, received: &[u64], given: &[u64], server:
     (held as i64) - (given[i] as i64)
 }
 
-// Whether the servers that a map names are a quorum: whether twice what they hold is above twice what they gave and W.
-pub(crate) fn is_quorum(config: Config, received: &[u64], given: &[u64], map: u64) -> bool
+// Twice the weight of the servers that a map names, less W: twice what they hold, less twice what they gave and W.
+pub(crate) fn margin_of(config: Config, received: &[u64], given: &[u64], map: u64) -> i64
     requires { ⌜ (validOf config ≡ true) × Sums 68719476720 (now received) × Sums 68719476720 (now given) ⌝ }
-    ensures { λ r. ⌜ r ≡ quorumOf (config .n) (accountsIn config (now (received .entry)) (now (given .entry))) (named map) ⌝ }
+    ensures { λ r. ⌜ r ≡ margin (config .n) (accountsIn config (now (received .entry)) (now (given .entry))) (named map) ⌝ }
 {
     let n = config.n as usize;
     let Number::Value(total) = config.total() else {
-        return false;
+        return 0;
     };
     let mut held: u64 = 0;
     let mut gave: u64 = 0;
@@ -58,5 +58,6 @@ pub(crate) fn is_quorum(config: Config, received: &[u64], given: &[u64], map: u6
         }
         i += 1;
     }
-    2 * gave + total < 2 * held
+    let less = 2 * gave + total;
+    ((2 * held) as i64) - (less as i64)
 }

@@ -148,7 +148,7 @@ module _ (c : Config) (valid : validOf c ≡ true) (steps : List Step) (typed : 
         begins = λ u note b l rests room. same;
         drops = λ o e. same;
         restarts = λ q m o f e room. larger q m (f .sent);
-        marks = λ q m o f e. larger q m (f .sent);
+        marks = λ q m o f e short. larger q m (f .sent);
         chooses = λ q m o f e g h room w. larger q m (f .sent);
         ends = λ q m o g s f e h z. larger q m (f .sent);
       })

@@ -16,7 +16,7 @@ use Rattle.quorums.specs.Difference.{difference}
 use Rattle.quorums.specs.Accounts.{held, weight, total, weightIn}
 use Rattle.quorums.proofs.Tests.{le-or-lt}
 use Rattle.quorums.proofs.Sums.{sum-same, sumIn-same, sumIn-set, each-all}
-use Rattle.quorums.proofs.Weights.{weightIn-is, quorum-is}
+use Rattle.quorums.proofs.Weights.{weightIn-is, margin-is, quorum-is}
 use Rattle.format.proofs.Same.{SameSheet}
 use Rattle.config.specs.Cluster.{validOf, startOf, aboveOf, mostWeight}
 use Rattle.config.specs.declared.cluster.Config.{Config}
@@ -24,7 +24,7 @@ use Rattle.config.proofs.Clusters.{valid-bounds}
 use Rattle.ledger.specs.Tables.{run, table}
 use Rattle.ledger.specs.Ledgers.{freshLedger, countOf, cellOf, givenOf, receivedOf, accountsOf, Typed}
 use Rattle.ledger.specs.Maps.{named}
-use Rattle.ledger.specs.Weights.{weightOf, allOf, quorumOf}
+use Rattle.ledger.specs.Weights.{weightOf, allOf, marginOf, quorumOf}
 use Rattle.ledger.specs.Checks.{mayHold, totalFits, cellFits, rowFits, serverAbove, bounded, aboveFloor}
 use Rattle.ledger.specs.Joins.{agree, agreeAt, laterAt, largerAt, joins, joined, lacks}
 use Rattle.ledger.specs.Changes.{added}
@@ -33,7 +33,7 @@ use Rattle.ledger.proofs.Totals.{told-bounded}
 use Rattle.ledger.proofs.Added.{may-hold-placed}
 use Rattle.ledger.proofs.Unions.{same-ledger, later-first, later-second}
 use Rattle.ledger.proofs.Compared.{lacks-nothing}
-use Rattle.machine.specs.Sets.{Transfer, Transfers, includes, union, tally, count, cell, given, received, accounts, weightOf as plainWeight, quorumOf as plainQuorum}
+use Rattle.machine.specs.Sets.{Transfer, Transfers, includes, union, tally, count, cell, given, received, accounts, weightOf as plainWeight, marginOf as plainMargin, quorumOf as plainQuorum}
 use Rattle.machine.specs.Sheets.{Sound}
 use Rattle.machine.proofs.SetRanges.{SetRange}
 use Rattle.machine.proofs.Rows.{Agree}
@@ -226,6 +226,13 @@ module _ (c : Config) (valid : validOf c ≡ true) (a : Transfers) (w : SetRange
       quorum-is (c .n) (accountsOf c (ledgerFor a)) (named m)
       ∙ ap₂ (λ x y. ltb (2 * x + sum (c .n) (startOf c)) (2 * y)) (given-in (named m) q e) (held-in (named m) q e)
       ∙ sym (quorum-is (c .n) (accounts c a) q)
+
+  pub margin-for : (m : ℕ) (q : ℕ → Bool) → ((i : ℕ) → i < c .n → named m i ≡ q i) → marginOf c (ledgerFor a) m ≡ plainMargin c a q
+  unfolding marginOf plainMargin total
+  margin-for m q e =
+      margin-is (c .n) (accountsOf c (ledgerFor a)) (named m)
+      ∙ ap₂ (λ x y. difference (2 * y) (2 * x + sum (c .n) (startOf c))) (given-in (named m) q e) (held-in (named m) q e)
+      ∙ sym (margin-is (c .n) (accounts c a) q)
 
   pub above-for : Sound c a → aboveFloor c (ledgerFor a) ≡ true
   unfolding aboveFloor

@@ -19,7 +19,8 @@ pub mod Brought
 pub mod Views
 -- Demand 3.
 pub mod Demand3
--- What follows from it.
+-- What follows from it; and what desk staff see in a run.
 pub mod Consequences
+pub mod Margins
 pub mod Sold
 pub mod Literal

@@ -9,7 +9,7 @@ use super::text::skip;
 
 // The table of the forms, one to a line, in the order of `command_of`: `#` stands for a number, `*` for bytes in hex, which are the last of a line, and
 // any other word for itself.
-pub(crate) const FORMS: [u8; 227] = *b"house # #
+pub(crate) const FORMS: [u8; 236] = *b"house # #
 begin # read #
 begin # write # *
 ask # # # #
@@ -17,6 +17,7 @@ share # # #
 serve # # # *
 hear # *
 result #
+margin #
 drop #
 transfer # # #
 crash #

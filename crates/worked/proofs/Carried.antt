@@ -1,15 +1,17 @@
 -- What the plain machine is shown to do by computation, the program does. Each step of the machine is made one of the program's by a buffer of zeros; and a
 -- hear is made one by value or one on a lent record, for every choice.
-use Prim.Native.Nat.{ℕ}
+use Prim.Native.Nat.{ℕ, _≤_}
 use mathlib.Core.Path.{_≡_, refl, sym, ap, ap₂, _∙_, subst}
 use mathlib.Core.Bool.{Bool, true, false, cond}
 use mathlib.Core.List.{List, [], _∷_, map}
 use lib.ListN.{replicate, length-replicate}
 use Rattle.config.specs.Cluster.{validOf}
 use Rattle.config.specs.declared.cluster.Config.{Config}
+use Rattle.desk.specs.Margins.{marginOf}
 use Rattle.machine.specs.Parties.{bytesOf}
-use Rattle.machine.specs.Runs.{at, answersOf}
+use Rattle.machine.specs.Runs.{at, answersOf, mostDesk, deskAt}
 use Rattle.machine.specs.Steps.{Step as PlainStep, begin as plain-begin, ask as plain-ask, serve as plain-serve, hear as plain-hear, result as plain-result, drop as plain-drop, transfer as plain-transfer, share as plain-share, crash as plain-crash, machine, PlainRun, runOf as plainRunOf}
+use Rattle.machine.specs.Calls.{marginBy}
 use Rattle.machine.specs.Views.{View}
 use Rattle.machine.specs.Seen.{viewOf as plainView}
 use Rattle.machine.specs.Typed.{Typed as TypedPlain}
@@ -18,6 +20,7 @@ use Rattle.runs.specs.Steps.{Step, begin, ask, serve, hear, hear-lent, result, 
 use Rattle.runs.specs.Runs.{ProgramRun, runOf}
 use Rattle.runs.specs.Seen.{viewOf}
 use Rattle.runs.proofs.Demand3.{demand3}
+use Rattle.runs.proofs.Margins.{shownAs, margin-same}
 
 -- `lent` says of each message, by its place among those sent, whether it is heard on a lent record.
 module _ (lent : ℕ → Bool) where
@@ -78,3 +81,9 @@ module _ (lent : ℕ → Bool) where
 
     pub bytes-shown : (k : ℕ) → at (runFor (plainRunOf machine c l)) k .sent ≡ map (bytesOf c) (at (plainRunOf machine c l) k .sent)
     bytes-shown k = demand3 c valid (map filled l) typed .bytes k ∙ ap (λ z. map (bytesOf c) (at (plainRunOf machine c z) k .sent)) (all-filled l)
+
+    -- and so is what desk staff see
+    pub margin-shown : (k d : ℕ) → 1 ≤ d → d ≤ mostDesk
+        → marginOf (deskAt (runFor (plainRunOf machine c l)) d k) ≡ shownAs (marginBy c (deskAt (plainRunOf machine c l) d k))
+    margin-shown k d first last =
+        margin-same c valid (map filled l) typed k d first last ∙ ap (λ z. shownAs (marginBy c (deskAt (plainRunOf machine c z) d k))) (all-filled l)

@@ -1,23 +1,25 @@
--- Cases 1 to 11 of paper 01 ("Checked by the prover, as one group") as one theorem over the definitions of the calls, and its share in hex.
+-- Cases 1 to 11 of paper 01 ("Checked by the prover, as one group") as one theorem over the definitions of the calls, and its share in hex. Where a case
+-- asks for a quorum, the answer is paper 02's number (N1).
 use Prim.Native.Nat.{ℕ, zero, suc, _+_, _^_, _<_}
 use native.Mathlib.Omega.{arith}
 use mathlib.Core.Path.{_≡_, refl, _∙_, subst}
 use mathlib.Core.Bool.{true}
 use mathlib.Core.List.{List, [], _∷_, _++_}
+use lib.IntN.{pos, negsuc}
 use lib.ListN.{replicate}
 use Rattle.quorums.specs.Sum.{size, sum, sumℤ, all}
 use Rattle.quorums.specs.Difference.{difference}
-use Rattle.quorums.specs.Accounts.{weight, total, weightIn, margin, quorum, above}
+use Rattle.quorums.specs.Accounts.{weight, total, weightIn, margin, above}
 use Rattle.config.specs.Cluster.{level, validOf, serverOf, startOf, totalOf, aboveOf, stampBytes}
 use Rattle.config.specs.Refusals.{refusal}
 use Rattle.config.specs.declared.answer.Number.{Number}
-use Rattle.config.specs.declared.answer.Decision.{Decision}
+use Rattle.config.specs.declared.answer.Signed.{Signed}
 use Rattle.config.specs.declared.answer.Verdict.{Verdict}
 use Rattle.ledger.specs.declared.ledger.Ledger.{Ledger}
 use Rattle.ledger.specs.declared.ledger.Changed.{Changed}
 use Rattle.ledger.specs.Ledgers.{freshLedger, countOf, cellOf, givenOf, receivedOf, Typed as TypedLedger}
 use Rattle.ledger.specs.Maps.{named, mapOf}
-use Rattle.ledger.specs.Weights.{weightOf, quorumOf, quorumAnswer}
+use Rattle.ledger.specs.Weights.{weightOf, marginOf, quorumAnswer}
 use Rattle.ledger.specs.Checks.{mayHold, totalFits, bounded, aboveFloor}
 use Rattle.ledger.specs.Tables.{run, table}
 use Rattle.ledger.specs.Joins.{agree, later, joins, joined, joinAnswer}
@@ -40,7 +42,7 @@ use Rattle.server.specs.Shares.{shareOf}
 use Rattle.seats.specs.Offers.{freeIn, offered, offerAnswer}
 use Rattle.worked.proofs.Refusals.{five}
 use Rattle.worked.proofs.Gifts.{byFloor, floor-decides}
-use Rattle.worked.proofs.Quorums.{no-two-of-four}
+use Rattle.worked.proofs.Quorums.{two-fresh}
 use Rattle.worked.proofs.Messages.{share, sheet-only, share-number}
 
 -- ---- what the cases are about
@@ -57,8 +59,8 @@ gave i = transferOf (openOf 5 1 i .server) 2 374
 abbrev pub union : Changed
 union = joinAnswer (gave 0 .server .replica .ledger) (gave 1 .server .replica .ledger)
 
--- both gave, their ledgers join, and on the union a map is a quorum or not
-pub record AfterBoth (map : ℕ) (answer : Decision) : Type 0 where
+-- both gave, their ledgers join, and on the union a map gets its answer
+pub record AfterBoth (map : ℕ) (answer : Signed) : Type 0 where
   pub first-accepted : gave 0 .verdict ≡ Verdict.Accepted
   pub second-accepted : gave 1 .verdict ≡ Verdict.Accepted
   pub join-accepted : union .verdict ≡ Verdict.Accepted
@@ -103,12 +105,12 @@ pub record Cases : Type 0 where
   pub case-5 : Gives 16 7 111 Verdict.Accepted
   -- "6: 112 is 10"
   pub case-6 : Gives 16 7 112 (Verdict.Refused (refusal 10))
-  -- "7: n=4, two fresh servers aren't a quorum": any two, and any lawful f
-  pub case-7 : (f m : ℕ) → validOf (level 4 f) ≡ true → m < 2 ^ 4 → size 4 (named m) ≡ 2 → quorumAnswer (level 4 f) freshLedger m ≡ Decision.No
-  -- "8: n=5 f=1, after 0 and 1 each give 374 to 2, servers 2 and 4 are"
-  pub case-8 : AfterBoth (2 ^ 2 + 2 ^ 4) Decision.Yes
-  -- "9: 2 and 0 aren't"
-  pub case-9 : AfterBoth (2 ^ 2 + 2 ^ 0) Decision.No
+  -- "7: n=4, two fresh servers aren't a quorum": any two, and any lawful f, give 0
+  pub case-7 : (f m : ℕ) → validOf (level 4 f) ≡ true → m < 2 ^ 4 → size 4 (named m) ≡ 2 → quorumAnswer (level 4 f) freshLedger m ≡ Signed.Value (pos 0)
+  -- "8: n=5 f=1, after 0 and 1 each give 374 to 2, servers 2 and 4 are": 2 × 2,748 − 5,000
+  pub case-8 : AfterBoth (2 ^ 2 + 2 ^ 4) (Signed.Value (pos 496))
+  -- "9: 2 and 0 aren't": 2 × 2,374 − 5,000
+  pub case-9 : AfterBoth (2 ^ 2 + 2 ^ 0) (Signed.Value (negsuc 251))
   -- "10: n=5 f=1, a message where 1 gave 748, without 0's 374 to 1, reads 5": to any other server
   pub case-10 : (j : ℕ) → j < 5 → (j ≡ 1 → ⊥) → Reads j
   -- "11: value A0 (hex) has 6 on offer, the empty one 0"
@@ -116,10 +118,10 @@ pub record Cases : Type 0 where
 
 -- ---- cases 8 and 9, by computation
 
-after-both : AfterBoth (2 ^ 2 + 2 ^ 4) Decision.Yes × AfterBoth (2 ^ 2 + 2 ^ 0) Decision.No
+after-both : AfterBoth (2 ^ 2 + 2 ^ 4) (Signed.Value (pos 496)) × AfterBoth (2 ^ 2 + 2 ^ 0) (Signed.Value (negsuc 251))
 unfolding openOf serverOf validOf transferOf giveOf spares lawful added fits fitsReplica registerFits isStart registerMark bounded mayHold totalFits
     aboveFloor aboveOf above totalOf startOf weightOf weight difference givenOf receivedOf joinAnswer joins joined agree later all table run sum sumℤ
-    named mapOf quorumAnswer quorumOf quorum margin weightIn total
+    named mapOf quorumAnswer marginOf margin weightIn total
 after-both = (
   record { first-accepted = refl; second-accepted = refl; join-accepted = refl; quorum-is = refl },
   record { first-accepted = refl; second-accepted = refl; join-accepted = refl; quorum-is = refl },
@@ -185,7 +187,7 @@ cases = record {
   case-4 = floor-decides 4 1 334 refl (omega arith);
   case-5 = floor-decides 16 7 111 refl (omega arith);
   case-6 = floor-decides 16 7 112 refl (omega arith);
-  case-7 = no-two-of-four;
+  case-7 = two-fresh .of-four;
   case-8 = after-both .0;
   case-9 = after-both .1;
   case-10 = reads;

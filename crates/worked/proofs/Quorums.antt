@@ -1,37 +1,55 @@
--- No two of four fresh servers are a quorum, by trying every map and every lawful f.
-use Prim.Native.Nat.{ℕ, _^_, _<_}
+-- Servers of a house that starts level, before any transfer: whichever k of n they are, and whatever f, their margin is 2 × 1,000 × k − 1,000 × n
+-- (paper 02, N1).
+use Prim.Native.Nat.{ℕ, _+_, _*_, _^_, _<_}
 use native.Mathlib.Omega.{arith}
-use mathlib.Core.Path.{_≡_, refl}
-use mathlib.Core.Bool.{Bool, true, false, cond, not}
-use borrow.Author.Tests.{eq-eqb, lt-ltb, not-true}
-use lib.Dec.{eqb}
-use Rattle.quorums.specs.Sum.{size, sum, sumℤ, sumIn, all}
+use mathlib.Core.Path.{_≡_, refl, sym, ap, ap₂, _∙_}
+use mathlib.Core.Bool.{true}
+use borrow.Author.Tests.{lt-ltb}
+use lib.IntN.{pos, negsuc}
+use Rattle.quorums.specs.Sum.{size, sumIn}
 use Rattle.quorums.specs.Difference.{difference}
-use Rattle.quorums.specs.Accounts.{weight, total, weightIn, margin, quorum}
-use Rattle.quorums.proofs.Sums.{all-each}
+use Rattle.quorums.specs.Accounts.{held, total}
+use Rattle.quorums.proofs.Sums.{sumIn-same, sumIn-const}
+use Rattle.quorums.proofs.Weights.{margin-is}
 use Rattle.config.specs.Cluster.{level, validOf, startOf}
-use Rattle.config.specs.declared.answer.Decision.{Decision}
-use Rattle.config.proofs.Clusters.{valid-bounds}
-use Rattle.ledger.specs.Ledgers.{freshLedger, givenOf, receivedOf}
+use Rattle.config.specs.declared.answer.Signed.{Signed}
+use Rattle.config.proofs.Clusters.{total-is}
+use Rattle.ledger.specs.Ledgers.{freshLedger, givenOf, accountsOf}
 use Rattle.ledger.specs.Maps.{named, mapOf}
-use Rattle.ledger.specs.Weights.{quorumOf, quorumAnswer}
+use Rattle.ledger.specs.Weights.{marginOf, quorumAnswer}
+use Rattle.ledger.proofs.Answers.{total-accounts, told-quorum}
+use Rattle.ledger.proofs.Fresh.{fresh-given, fresh-received}
 
--- whether a map of two of four servers is no quorum on the fresh ledger
-notQuorum : ℕ → ℕ → Bool
-notQuorum f m = cond (eqb (size 4 (named m)) 2) (not (quorumOf (level 4 f) freshLedger m)) true
+module _ (n f m : ℕ) where
+  -- each has 1,000 and gave nothing
+  fresh-held : sumIn n (named m) (held (accountsOf (level n f) freshLedger)) ≡ size n (named m) * 1000
+  unfolding startOf
+  fresh-held = sumIn-same n (named m) _ (λ i. 1000) (λ i l t. omega (arith, fresh-received i)) ∙ sumIn-const n 1000 (named m)
 
-tried : all 2 (λ f. all 16 (notQuorum f)) ≡ true
-unfolding notQuorum all size sumIn sum sumℤ named quorumOf quorum margin weightIn weight total difference startOf givenOf receivedOf
-tried = refl
+  nothing-given : sumIn n (named m) (givenOf freshLedger) ≡ size n (named m) * 0
+  nothing-given = sumIn-same n (named m) _ (λ i. 0) (λ i l t. fresh-given i) ∙ sumIn-const n 0 (named m)
 
-no-quorum : (f m : ℕ) → validOf (level 4 f) ≡ true → m < 2 ^ 4 → size 4 (named m) ≡ 2 → quorumOf (level 4 f) freshLedger m ≡ false
-unfolding notQuorum
-no-quorum f m v h s =
-    let lawful : f < 2 = omega (arith, valid-bounds (level 4 f) v .crash) in
-    let e = all-each 16 (notQuorum f) (all-each 2 (λ g. all 16 (notQuorum g)) tried f lawful) m h in
-    not-true _ (rw (eq-eqb (size 4 (named m)) 2 s) at e)
+  fresh-margin : marginOf (level n f) freshLedger m ≡ difference (2 * (size n (named m) * 1000)) (n * 1000)
+  unfolding marginOf
+  fresh-margin =
+      let W : total n (accountsOf (level n f) freshLedger) ≡ n * 1000 = total-accounts (level n f) freshLedger ∙ total-is (level n f) in
+      let less : 2 * (size n (named m) * 0) + n * 1000 ≡ n * 1000 = omega arith in
+      margin-is n (accountsOf (level n f) freshLedger) (named m)
+      ∙ ap₂ difference (ap (λ x. 2 * x) fresh-held) (ap₂ (λ x y. 2 * x + y) nothing-given W ∙ less)
 
-pub no-two-of-four : (f m : ℕ) → validOf (level 4 f) ≡ true → m < 2 ^ 4 → size 4 (named m) ≡ 2
-    → quorumAnswer (level 4 f) freshLedger m ≡ Decision.No
-unfolding quorumAnswer mapOf
-no-two-of-four f m v h s = simp (v, lt-ltb m (2 ^ 4) h, no-quorum f m v h s)
+  pub fresh-quorum : (k : ℕ) → validOf (level n f) ≡ true → m < 2 ^ n → size n (named m) ≡ k
+      → quorumAnswer (level n f) freshLedger m ≡ Signed.Value (difference (2 * (k * 1000)) (n * 1000))
+  unfolding mapOf
+  fresh-quorum k v h s =
+      told-quorum (level n f) freshLedger m (rw v (lt-ltb m (2 ^ n) h))
+      ∙ ap Signed.Value (fresh-margin ∙ ap (λ x. difference (2 * (x * 1000)) (n * 1000)) s)
+
+-- "At n=4 two fresh servers give 0, at n=5 they give −1,000" (paper 02, N1): each two, for each lawful f.
+pub record TwoFresh : Type 0 where
+  pub of-four : (f m : ℕ) → validOf (level 4 f) ≡ true → m < 2 ^ 4 → size 4 (named m) ≡ 2 → quorumAnswer (level 4 f) freshLedger m ≡ Signed.Value (pos 0)
+  pub of-five : (f m : ℕ) → validOf (level 5 f) ≡ true → m < 2 ^ 5 → size 5 (named m) ≡ 2
+      → quorumAnswer (level 5 f) freshLedger m ≡ Signed.Value (negsuc 999)
+
+pub two-fresh : TwoFresh
+unfolding difference
+two-fresh = record { of-four = λ f m v h s. fresh-quorum 4 f m 2 v h s; of-five = λ f m v h s. fresh-quorum 5 f m 2 v h s }

@@ -19,7 +19,7 @@ use Rattle.config.specs.declared.answer.Verdict.{Verdict}
 use Rattle.ledger.specs.declared.ledger.Ledger.{Ledger}
 use Rattle.ledger.specs.Ledgers.{freshLedger, givenOf, receivedOf, refused, accepted}
 use Rattle.ledger.specs.Maps.{named, mapOf, namedAnswer}
-use Rattle.ledger.specs.Weights.{weightOf, marginOf, givenAnswer, receivedAnswer, weightAnswer, marginAnswer, quorumAnswer}
+use Rattle.ledger.specs.Weights.{weightOf, marginOf, givenAnswer, receivedAnswer, weightAnswer, quorumAnswer}
 use Rattle.ledger.specs.Checks.{mayHold, totalFits, bounded, aboveFloor, fits, floorAnswer, checkAnswer}
 use Rattle.ledger.specs.Tables.{run, table}
 use Rattle.ledger.specs.Joins.{agree, later, joins, joined, joinAnswer}
@@ -78,16 +78,16 @@ pub record BadServers : Type 0 where
   pub server : weightAnswer five freshLedger 5 ≡ Signed.Refused (refusal 1)
   pub last-server : givenAnswer five freshLedger most ≡ Number.Refused (refusal 1)
   pub received : receivedAnswer five freshLedger 5 ≡ Number.Refused (refusal 1)
-  pub bit : marginAnswer five freshLedger (2 ^ 5) ≡ Signed.Refused (refusal 1)
-  pub all-bits : quorumAnswer five freshLedger (2 ^ 16 - 1) ≡ Decision.Refused (refusal 1)
+  pub bit : quorumAnswer five freshLedger (2 ^ 5) ≡ Signed.Refused (refusal 1)
+  pub all-bits : quorumAnswer five freshLedger (2 ^ 16 - 1) ≡ Signed.Refused (refusal 1)
   pub named-bit : namedAnswer five (2 ^ 5) ≡ Number.Refused (refusal 1)
   pub named-all : namedAnswer five (2 ^ 5 - 1) ≡ Number.Value 5
-  pub nobody : marginAnswer five freshLedger 0 ≡ Signed.Value (negsuc 4999)
-  pub two-of-four : marginAnswer (level 4 1) freshLedger 3 ≡ Signed.Value (pos 0)
-  pub two-of-five : marginAnswer five freshLedger 3 ≡ Signed.Value (negsuc 999)
+  -- and the ends of the number: nobody, everybody
+  pub nobody : quorumAnswer five freshLedger 0 ≡ Signed.Value (negsuc 4999)
+  pub everybody : quorumAnswer (level 16 7) freshLedger (2 ^ 16 - 1) ≡ Signed.Value (pos 16000)
 
 pub bad-servers : BadServers
-unfolding weightAnswer givenAnswer receivedAnswer marginAnswer quorumAnswer namedAnswer serverOf validOf mapOf marginOf margin weightIn weight total difference named size sumIn sum sumℤ startOf givenOf receivedOf
+unfolding weightAnswer givenAnswer receivedAnswer quorumAnswer namedAnswer serverOf validOf mapOf marginOf margin weightIn weight total difference named size sumIn sum sumℤ startOf givenOf receivedOf
 bad-servers = record {
   server = refl;
   last-server = refl;
@@ -97,8 +97,7 @@ bad-servers = record {
   named-bit = refl;
   named-all = refl;
   nobody = refl;
-  two-of-four = refl;
-  two-of-five = refl;
+  everybody = refl;
 }
 
 -- ---- transfers that are refused
@@ -182,6 +181,7 @@ generous = record { counts = replicate 16 0; cells = replicate 16 4294967295 ++ 
 pub record Contents : Type 0 where
   pub full-weight : weightAnswer five full 0 ≡ Signed.Value (pos 1000)
   pub negative-weight : weightAnswer five generous 0 ≡ Signed.Value (negsuc 64424508424)
+  pub negative-margin : quorumAnswer five generous 1 ≡ Signed.Value (negsuc 128849021849)
   pub full-bounds : checkAnswer five full ≡ Verdict.Refused (refusal 4)
   pub light : checkAnswer five (gave 1 375) ≡ Verdict.Refused (refusal 5)
   pub not-light : checkAnswer five (gave 1 374) ≡ Verdict.Accepted
@@ -190,10 +190,11 @@ pub record Contents : Type 0 where
   pub cell-alone : checkAnswer five (gave 0 1) ≡ Verdict.Refused (refusal 4)
 
 pub contents : Contents
-unfolding weightAnswer checkAnswer floorAnswer bounded aboveFloor mayHold totalFits serverOf validOf weightOf weight difference aboveOf above totalOf startOf all sum givenOf receivedOf
+unfolding weightAnswer quorumAnswer mapOf named marginOf margin weightIn total sumℤ checkAnswer floorAnswer bounded aboveFloor mayHold totalFits serverOf validOf weightOf weight difference aboveOf above totalOf startOf all sum givenOf receivedOf
 contents = record {
   full-weight = refl;
   negative-weight = refl;
+  negative-margin = refl;
   full-bounds = refl;
   light = refl;
   not-light = refl;

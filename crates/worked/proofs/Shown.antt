@@ -1,21 +1,27 @@
 -- Demand 3 is not empty: what the plain machine is shown to do by computation (`nearmiss/proofs/Shown.antt`), the program does. Places count from 0.
 use Prim.Native.Nat.{ℕ, _%_}
-use mathlib.Core.Path.{_≡_, refl, sym, _∙_, subst}
+use native.Mathlib.Omega.{arith}
+use mathlib.Core.Path.{_≡_, refl, sym, ap, _∙_, subst}
 use mathlib.Core.Bool.{Bool, false}
 use mathlib.Core.List.{[], _∷_, map}
 use mathlib.Core.Option.{none, some}
 use lib.Dec.{eqb}
+use lib.IntN.{pos, negsuc}
 use Rattle.config.specs.Cluster.{validOf}
+use Rattle.config.specs.Refusals.{refusal}
+use Rattle.config.specs.declared.answer.Signed.{Signed}
+use Rattle.desk.specs.Margins.{marginOf}
 use Rattle.machine.specs.Parties.{read, write, start}
-use Rattle.machine.specs.Runs.{nth, done, told}
+use Rattle.machine.specs.Runs.{nth, done, told, deskAt}
 use Rattle.machine.specs.Views.{Ends, Chose, restartsMade, gain}
 use Rattle.machine.proofs.Computing.{computing}
 use Rattle.machine.proofs.Blocks.{sale, sold}
 use Rattle.machine.proofs.Concrete.{areBytes, typedSteps}
 use Rattle.nearmiss.specs.Steps.{returned, written}
-use Rattle.nearmiss.proofs.Shown.{across, read-across, droppedWrite, read-dropped, twoRestarts, write-restarted, unwritten, read-unwritten}
+use Rattle.nearmiss.proofs.Shown.{across, read-across, watch-across, droppedWrite, read-dropped, twoRestarts, write-restarted, unwritten, read-unwritten}
 use Rattle.runs.specs.Steps.{hear, hear-lent}
-use Rattle.worked.proofs.Carried.{runFor, seen, view-shown}
+use Rattle.runs.proofs.Margins.{shownAs}
+use Rattle.worked.proofs.Carried.{runFor, seen, view-shown, margin-shown}
 
 -- `lent` says of each message, by its place among those sent, whether it is heard on a lent record.
 module _ (lent : ℕ → Bool) where
@@ -35,6 +41,26 @@ module _ (lent : ℕ → Bool) where
         weight-moves = subst (λ v. v .answers 19 ≡ done) same (read-across .weight-moves);
         read-ends = subst (λ v. Ends v 2 22 read 37 (returned sold 1)) same (read-across .read-ends);
         read-told = subst (λ v. v .answers 38 ≡ told (returned sold 1)) same (read-across .read-told);
+      }
+
+  -- what its desk staff see (paper 02, N1)
+  pub record Watched : Type 0 where
+    pub before : marginOf (deskAt (runFor lent across) 1 0) ≡ Signed.Refused (refusal 9)
+    pub nobody : marginOf (deskAt (runFor lent across) 1 1) ≡ Signed.Value (negsuc 3999)
+    pub half : marginOf (deskAt (runFor lent across) 1 7) ≡ Signed.Value (pos 0)
+    pub next-phase : marginOf (deskAt (runFor lent across) 1 10) ≡ Signed.Value (negsuc 3999)
+    pub heavier-alone : marginOf (deskAt (runFor lent across) 2 29) ≡ Signed.Value (negsuc 1333)
+
+  pub program-watched : Watched
+  unfolding typedSteps areBytes validOf
+  program-watched =
+      let same = margin-shown lent (across .config) refl (across .steps) refl in
+      record {
+        before = same 0 1 (omega arith) (omega arith) ∙ ap shownAs (watch-across .before);
+        nobody = same 1 1 (omega arith) (omega arith) ∙ ap shownAs (watch-across .nobody);
+        half = same 7 1 (omega arith) (omega arith) ∙ ap shownAs (watch-across .half);
+        next-phase = same 10 1 (omega arith) (omega arith) ∙ ap shownAs (watch-across .next-phase);
+        heavier-alone = same 29 2 (omega arith) (omega arith) ∙ ap shownAs (watch-across .heavier-alone);
       }
 
   -- n = 3, f = 1: desk 1's write reaches one server and is dropped, and desk 2 reads its value

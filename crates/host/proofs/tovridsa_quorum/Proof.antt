@@ -3,7 +3,7 @@ use mathlib.Core.Path.{_≡_, ap, _∙_}
 use borrow.Author.Needs.{needs}
 use Rattle.reader.specs.Weighings.{quorumIn}
 use Rattle.ledger.proofs.Answers.{read-back}
-use Rattle.host.specs.Codes.{decisionCode, quorumCode}
+use Rattle.host.specs.Codes.{signedCode, quorumCode}
 use Rattle.host.proofs.tovridsa_quorum.Statement.{statement}
 use Rattle.host.proofs.tovridsa_quorum.Tie as tie
 
@@ -13,18 +13,18 @@ of-requires c κs = search needs
 quorum-requires : tie.Need-quorum-requires
 quorum-requires c κs = search needs
 
-of-decision-requires : tie.Need-of-decision-requires
-of-decision-requires c κs = search needs
+of-signed-requires : tie.Need-of-signed-requires
+of-signed-requires c κs = search needs
 
 returns : tie.Need-returns
 unfolding quorumCode
 returns c =
     let a = c .before .before .before .before .args in
     let asked : c .before .quorum .result ≡ quorumIn (c .before .before .of .result) (a .map) (a .msg .now) = c .before .quorum .ensures in
-    read-back (c .of-decision .result) (c .of-decision .ok)
-    ∙ c .of-decision .ensures
-    ∙ ap decisionCode (asked ∙ ap (λ config. quorumIn config (a .map) (a .msg .now)) (c .before .before .of .ensures))
+    read-back (c .of-signed .result) (c .of-signed .ok)
+    ∙ c .of-signed .ensures
+    ∙ ap signedCode (asked ∙ ap (λ config. quorumIn config (a .map) (a .msg .now)) (c .before .before .of .ensures))
 
 pub tovridsa-quorum-spec : {M : Type 1} → statement M
 tovridsa-quorum-spec =
-    tie.close (tie.spec of-requires quorum-requires of-decision-requires returns)
+    tie.close (tie.spec of-requires quorum-requires of-signed-requires returns)

@@ -1,12 +1,13 @@
 -- `hear_in` meets its contract: what is weighed decides the record test, what is read is heard, and each outcome is handed back with its counts and cells.
 use Prim.Native.Nat.{_<_}
 use native.Mathlib.Omega.{arith}
-use mathlib.Core.Path.{_≡_, refl, sym, ap, subst, _∙_}
+use mathlib.Core.Path.{_≡_, refl, sym, ap, ap₂, subst, _∙_}
 use mathlib.Core.Bool.{true, false}
 use borrow.Author.Needs.{needs}
 use borrow.Author.Tests.{not-true, not-false}
 use denote.Ref.{now}
 use Rattle.config.specs.declared.answer.Verdict.{Verdict}
+use Rattle.ledger.proofs.Answers.{read-back}
 use Rattle.message.specs.Envelopes.{Bytes}
 use Rattle.message.specs.Faults.{Passed}
 use Rattle.message.specs.declared.answer.Taken.{Taken}
@@ -23,7 +24,7 @@ use Rattle.desk.proofs.Operations.{operation-told}
 use Rattle.desk.proofs.Desks.{sound-first, Sound, sound-told, number-told}
 use Rattle.desk.proofs.Told.{hear-unfit}
 use Rattle.desk.proofs.Hearings.{listens-told, hearRead, listening-refused, listening-late, listening-larger, listening-equal}
-use Rattle.desk.proofs.Answers.{weighed-fits, weighed-quorum, read-passed, read-hears, unheard-answers, restart-answers, mark-answers}
+use Rattle.desk.proofs.Answers.{weighed-fits, weighed-margin, read-passed, read-hears, unheard-answers, restart-answers, mark-answers}
 use Rattle.desk.proofs.hear.hear_in.Statement.{statement}
 use Rattle.desk.proofs.hear.hear_in.Tie as tie
 
@@ -172,7 +173,7 @@ enum-told-3 c = search needs
 
 mark-requires : tie.Need-mark-requires
 mark-requires c κs =
-    let k : tie.After-consider = c .before .before in
+    let k : tie.After-consider = c .before .before .before in
     number-told _ (lawful (read (taken k)) .number-in) .1
 
 returns-3 : tie.Need-returns-3
@@ -202,7 +203,7 @@ returns-5 c =
 
 returns-6 : tie.Need-returns-6
 returns-6 c =
-    let equal : tie.After-enum-told3 = c .before in
+    let equal : tie.After-enum-told3 = c .before .before in
     let k : tie.After-consider = equal .before .before in
     let test = tested k .before in
     let x = desk (entry (taken k)) in
@@ -210,8 +211,10 @@ returns-6 c =
     let marks = listening-equal x _ _ (told (taken k)) (fitting (tested k)) (passed k) (k .consider .ensures .1 (equal .enum-told3 .given .1)) z in
     let w = weighed test .weigh-lent in
     let map = counted test .marked in
-    let joined = ap (λ g. markIn (x .config) (x .number) (x .replica .register) g (x .round) (x .operation) (map .result) (w .result .quorum)) (joins k .higher .ensures) in
-    mark-answers x _ _ _ _ _ _ refl (map .ensures) (weighed-quorum x _ (w .result) (w .ensures) (fitting (tested k))) (heard k ∙ marks) (c .mark .ensures ∙ joined)
+    let exact = read-back (w .result .margin) (c .before .struct-told .given .1 .0 .1) in
+    let joined =
+    ap₂ (λ g y. markIn (x .config) (x .number) (x .replica .register) g (x .round) (x .operation) (map .result) y) (joins k .higher .ensures) exact in
+    mark-answers x _ _ _ _ _ _ refl (map .ensures) (weighed-margin x _ (w .result) (w .ensures) (fitting (tested k))) (heard k ∙ marks) (c .mark .ensures ∙ joined)
 
 pub hear-in-spec : {M : Type 1} → statement M
 hear-in-spec =

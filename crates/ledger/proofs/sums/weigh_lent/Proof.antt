@@ -1,15 +1,21 @@
--- `weigh_lent` meets its contract: where the test accepts the ledger, its sums are those of the ledger, and so is a quorum by them.
-use mathlib.Core.Path.{_≡_, refl, sym, _∙_}
+-- `weigh_lent` meets its contract: where the test accepts the ledger, its sums are those of the ledger, and so is a margin by them.
+use mathlib.Core.Path.{_≡_, refl, sym, ap, _∙_}
 use borrow.Author.Needs.{needs}
+use lib.IntN.{ℤ}
 use Rattle.config.specs.declared.answer.Verdict.{Verdict}
 use Rattle.ledger.specs.declared.ledger.Ledger.{Ledger}
+use Rattle.ledger.specs.declared.sums.Weighed.{Weighed}
 use Rattle.ledger.specs.Ledgers.{ledgerOf}
 use Rattle.ledger.specs.Checks.{checkAnswer}
 use Rattle.ledger.specs.Sums.{Weighs, weighedOf}
+use Rattle.ledger.proofs.Answers.{read-back}
 use Rattle.ledger.proofs.Checks.{check-told}
-use Rattle.ledger.proofs.Weights.{weighs-quorum}
+use Rattle.ledger.proofs.Weights.{weighs-margin}
 use Rattle.ledger.proofs.sums.weigh_lent.Statement.{statement}
 use Rattle.ledger.proofs.sums.weigh_lent.Tie as tie
+
+abbrev weighing : Verdict → ℤ → Weighed
+weighing v y = record { verdict = v; margin = y }
 
 abbrev entry : tie.After-weigh → tie.Start
 entry c = c .before .before .before .before .before
@@ -44,14 +50,14 @@ weigh-requires c κs = search needs
 enum-told : tie.Need-enum-told
 enum-told c = search needs
 
-slice-aggregate-is-quorum : tie.Need-slice-aggregate-is-quorum
-slice-aggregate-is-quorum c = search needs
+slice-aggregate-margin-of : tie.Need-slice-aggregate-margin-of
+slice-aggregate-margin-of c = search needs
 
-slice-aggregate-is-quorum-2 : tie.Need-slice-aggregate-is-quorum-2
-slice-aggregate-is-quorum-2 c = search needs
+slice-aggregate-margin-of-2 : tie.Need-slice-aggregate-margin-of-2
+slice-aggregate-margin-of-2 c = search needs
 
-is-quorum-requires : tie.Need-is-quorum-requires
-is-quorum-requires c κs =
+margin-of-requires : tie.Need-margin-of-requires
+margin-of-requires c κs =
     let t = accepting c in
     (check-told _ _ (told t) .0, sums t .takes-small, sums t .gives-small)
 
@@ -62,7 +68,8 @@ returns : tie.Need-returns
 unfolding weighedOf
 returns c =
     let t = accepting (c .before) in
-    rw (told t, ← weighs-quorum _ _ _ _ _ (sums t), ← c .is-quorum .ensures) refl
+    let exact = read-back (c .margin-of .result) (c .margin-of .ok) ∙ c .margin-of .ensures ∙ weighs-margin _ _ _ _ _ (sums t) in
+    rw (told t) (ap (λ y. weighing Verdict.Accepted y) exact)
 
 returns-2 : tie.Need-returns-2
 unfolding weighedOf
@@ -78,9 +85,9 @@ weigh-lent-spec =
     slice-aggregate-weigh-2
     weigh-requires
     enum-told
-    slice-aggregate-is-quorum
-    slice-aggregate-is-quorum-2
-    is-quorum-requires
+    slice-aggregate-margin-of
+    slice-aggregate-margin-of-2
+    margin-of-requires
     enum-known-r
     returns
     returns-2)

@@ -1,4 +1,4 @@
--- `quorum` meets its contract: the verdict, the map, and then the test of the sums.
+-- `quorum` meets its contract: the verdict, the map, and then the margin of the sums.
 use Prim.Native.Nat.{ℕ, _/_, _^_}
 use native.Mathlib.Omega.{arith}
 use mathlib.Core.Path.{_≡_, sym, ap, _∙_}
@@ -7,11 +7,11 @@ use borrow.Author.Needs.{needs}
 use borrow.Author.Tests.{eq-eqb, ne-eqb}
 use lib.Dec.{eqb}
 use Rattle.config.specs.Cluster.{validOf}
-use Rattle.config.specs.Answers.{decide}
 use Rattle.config.specs.declared.cluster.Config.{Config}
-use Rattle.config.specs.declared.answer.Decision.{Decision}
+use Rattle.config.specs.declared.answer.Signed.{Signed}
 use Rattle.config.proofs.Clusters.{valid-bounds}
 use Rattle.ledger.specs.Maps.{mapOf}
+use Rattle.ledger.proofs.Answers.{read-back}
 use Rattle.ledger.proofs.Maps.{shifted-zero}
 use Rattle.message.specs.Answers.{check, checkAnswer}
 use Rattle.message.proofs.Rounds.{check-told}
@@ -40,7 +40,7 @@ refused c = c .before .before .before .before .before
 abbrev matched : tie.Else1 → tie.After-enum-told
 matched c = c .before .before
 
-abbrev mapped : tie.After-is-quorum → tie.Else1
+abbrev mapped : tie.After-margin-of → tie.Else1
 mapped c = c .before .before .before
 
 -- where it passed, there is no fault, and the cluster is within bounds
@@ -65,7 +65,7 @@ enum-known-r c = search needs
 
 returns : tie.Need-returns
 unfolding quorumIn checkAnswer
-returns c = verdict-refused _ _ _ Decision.Refused (sym (refused c .weigh-message .ensures .0) ∙ c .before .r .given .1)
+returns c = verdict-refused _ _ _ Signed.Refused (sym (refused c .weigh-message .ensures .0) ∙ c .before .r .given .1)
 
 enum-told : tie.Need-enum-told
 enum-told c = search needs
@@ -85,34 +85,25 @@ returns-2 c =
     let a = start (weighed found) .args in
     map-refused _ _ _ (passed found) (map-is _ _ (valid found) ∙ ne-eqb (a .map / 2 ^ a .config .n) 0 (c .if1 .taken))
 
-slice-aggregate-is-quorum : tie.Need-slice-aggregate-is-quorum
-slice-aggregate-is-quorum c = search needs
+slice-aggregate-margin-of : tie.Need-slice-aggregate-margin-of
+slice-aggregate-margin-of c = search needs
 
-slice-aggregate-is-quorum-2 : tie.Need-slice-aggregate-is-quorum-2
-slice-aggregate-is-quorum-2 c = search needs
+slice-aggregate-margin-of-2 : tie.Need-slice-aggregate-margin-of-2
+slice-aggregate-margin-of-2 c = search needs
 
-is-quorum-requires : tie.Need-is-quorum-requires
-is-quorum-requires c κs =
+margin-of-requires : tie.Need-margin-of-requires
+margin-of-requires c κs =
     let found = matched (c .before .before) in
     let small = sheet-small _ _ (passed found) (weighed found .weigh-message .ensures .1) in
     (valid found, small .0, small .1)
 
--- the answer is the test's
-decided : (c : tie.After-is-quorum) →
-    let a = start (weighed (matched (mapped c))) .args in
-    decide (c .is-quorum .result) ≡ quorumIn (a .config) (a .map) (a .msg .now)
-decided c =
+returns-3 : tie.Need-returns-3
+returns-3 c =
     let found = matched (mapped c) in
     let a = start (weighed found) .args in
     let inside : mapOf (a .config) (a .map) ≡ true = map-is _ _ (valid found) ∙ eq-eqb (a .map / 2 ^ a .config .n) 0 (mapped c .if1 .left) in
-    ap decide (c .is-quorum .ensures)
+    ap Signed.Value (read-back (c .margin-of .result) (c .margin-of .ok) ∙ c .margin-of .ensures)
     ∙ quorum-answered _ _ (passed found) (weighed found .weigh-message .ensures .1) _ inside
-
-returns-3 : tie.Need-returns-3
-returns-3 c = ap decide (sym (c .if2 .taken)) ∙ decided (c .before)
-
-returns-4 : tie.Need-returns-4
-returns-4 c = ap decide (sym (c .if2 .left)) ∙ decided (c .before)
 
 pub quorum-spec : {M : Type 1} → statement M
 quorum-spec =
@@ -128,8 +119,7 @@ quorum-spec =
     cast-if1
     shr-if1
     returns-2
-    slice-aggregate-is-quorum
-    slice-aggregate-is-quorum-2
-    is-quorum-requires
-    returns-3
-    returns-4)
+    slice-aggregate-margin-of
+    slice-aggregate-margin-of-2
+    margin-of-requires
+    returns-3)

@@ -1,4 +1,4 @@
--- `margin_in` meets its contract: the servers named are balanced together, twice, against W.
+-- `quorum_in` meets its contract: the servers named are balanced together, twice, against W.
 use Prim.Native.Nat.{ℕ, _+_, _*_, _≤_}
 use native.Mathlib.Omega.{arith}
 use mathlib.Core.Path.{_≡_, sym, ap, _∙_}
@@ -10,18 +10,18 @@ use Rattle.config.proofs.Clusters.{total-small, total-told, total-refused}
 use Rattle.quorums.specs.Difference.{difference}
 use Rattle.config.specs.declared.answer.Signed.{Signed}
 use Rattle.ledger.specs.Maps.{mapOf}
-use Rattle.ledger.specs.Weights.{marginAnswer}
+use Rattle.ledger.specs.Weights.{quorumAnswer}
 use Rattle.ledger.proofs.Lines.{inCells, sides-in}
 use Rattle.ledger.proofs.Maps.{map-valid}
 use Rattle.ledger.proofs.Answers.{read-back, margin-balance}
-use Rattle.ledger.proofs.weight.margin_in.Statement.{statement}
-use Rattle.ledger.proofs.weight.margin_in.Tie as tie
+use Rattle.ledger.proofs.weight.quorum_in.Statement.{statement}
+use Rattle.ledger.proofs.weight.quorum_in.Tie as tie
 
 within-requires : tie.Need-within-requires
 within-requires c κs = search needs
 
 returns : tie.Need-returns
-unfolding marginAnswer
+unfolding quorumAnswer
 returns c =
     let a = c .before .before .before .args in
     let out : mapOf (a .config) (a .map) ≡ false = sym (c .before .within .ensures) ∙ not-true _ (c .if1 .taken) in
@@ -82,7 +82,7 @@ difference-requires : tie.Need-difference-requires
 difference-requires c κs = omega (arith, small c)
 
 returns-3 : tie.Need-returns-3
-unfolding marginAnswer
+unfolding quorumAnswer
 returns-3 c =
     let known = c .before .before .before .before in
     let b = c .before .before .before .balance-in in
@@ -93,8 +93,8 @@ returns-3 c =
     ∙ ap (λ w. difference (2 * b .result .held) (2 * b .result .given + w)) (total-is known)
     ∙ margin-balance _ _ _ _ _ (sides-in _ (inCells (start known .args .cells .now)) _ _ _ _ (b .ensures))))
 
-pub margin-in-spec : {M : Type 1} → statement M
-margin-in-spec =
+pub quorum-in-spec : {M : Type 1} → statement M
+quorum-in-spec =
     tie.close
     (tie.spec
     within-requires

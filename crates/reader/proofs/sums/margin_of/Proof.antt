@@ -1,22 +1,28 @@
--- `is_quorum` meets its contract: after i turns both sides are the sums over the servers below i that the map names.
-use Prim.Native.Nat.{_+_, _-_, _≤_, _<_}
+-- `margin_of` meets its contract: after i turns both sides are the sums over the servers below i that the map names, and they stay so small that their
+-- signed readings, and the difference, are themselves.
+use Prim.Native.Nat.{_+_, _-_, _*_, _≤_, _<_, _^_}
 use native.Mathlib.Omega.{arith}
 use mathlib.Core.Path.{_≡_, sym, _∙_}
 use mathlib.Core.Logic.{⊎-elim}
 use borrow.Author.Needs.{needs}
+use borrow.Author.Tests.{eq-eqb, ne-eqb}
 use lib.ListN.{getD}
+use mir.Facts.{toZ-ofZ}
 use Rattle.config.specs.Answers.{totalAnswer}
 use Rattle.config.specs.declared.answer.Number.{Number}
 use Rattle.config.proofs.Clusters.{valid-bounds}
-use Rattle.ledger.proofs.Weights.{total-stands, total-bound, Counted, counted-none, counted-room, counted-named, counted-passed, quorum-at}
-use Rattle.ledger.proofs.sums.is_quorum.Statement.{statement}
-use Rattle.ledger.proofs.sums.is_quorum.Tie as tie
+use Rattle.format.specs.Bytes.{bit}
+use Rattle.ledger.specs.Maps.{named}
+use Rattle.ledger.proofs.Answers.{gap-is, gap-fits}
+use Rattle.ledger.proofs.Weights.{total-stands, total-bound, Counted, counted-none, counted-room, counted-named, counted-passed, margin-at}
+use Rattle.reader.proofs.sums.margin_of.Statement.{statement}
+use Rattle.reader.proofs.sums.margin_of.Tie as tie
 
 abbrev Inv-loop : tie.InvT-loop
-Inv-loop config received given map total n held₀ gave₀ i₀ held gave i = (i ≤ config .n) × Counted config received given map i held gave
+Inv-loop config received given map n total held₀ gave₀ i₀ held gave i = (i ≤ config .n) × Counted config received given map i held gave
 
 abbrev μ-loop : tie.MeasureT-loop
-μ-loop config received given map total n held₀ gave₀ i₀ held gave i = config .n - i
+μ-loop config received given map n total held₀ gave₀ i₀ held gave i = config .n - i
 
 total-requires : tie.Need-total-requires Inv-loop μ-loop
 total-requires c κs = search needs
@@ -56,8 +62,8 @@ room c =
     let s = entry (turn c) in
     counted-room (turn c .loop .inv .1) (s .pre .1) (s .pre .2) (c .start-at .ensures) (small (c .before))
 
-names-requires : tie.Need-names-requires Inv-loop μ-loop
-names-requires c κs = small (c .before)
+bit-requires : tie.Need-bit-requires Inv-loop μ-loop
+bit-requires c κs = small (c .before)
 
 add-held : tie.Need-add-held Inv-loop μ-loop
 add-held c = omega (arith, room (c .before .before))
@@ -87,14 +93,15 @@ loop-less : tie.Need-loop-less Inv-loop μ-loop
 loop-less c = search needs
 
 loop-again : tie.Need-loop-again Inv-loop μ-loop
+unfolding named bit
 loop-again c =
     let x = c .before .before in
     let s = entry (turn x) in
     let sums = turn x .loop .inv .1 in
-    let named = sym (c .before .names .ensures) in (
+    let read = c .before .bit .ensures .0 in (
       omega (arith, x .before .loop-test .taken),
-      ⊎-elim (λ w. counted-named sums (s .pre .1) (s .pre .2) (x .start-at .ensures) (named ∙ w .0 .taken) (w .3) (w .4))
-          (λ w. counted-passed sums (s .pre .1) (s .pre .2) (x .start-at .ensures) (named ∙ w .0 .left) (w .1) (w .2))
+      ⊎-elim (λ w. counted-named sums (s .pre .1) (s .pre .2) (x .start-at .ensures) (eq-eqb _ 1 (sym read ∙ w .0 .taken)) (w .3) (w .4))
+          (λ w. counted-passed sums (s .pre .1) (s .pre .2) (x .start-at .ensures) (ne-eqb _ 1 (λ e. w .0 .left (read ∙ e))) (w .1) (w .2))
           (c .if1 .came),
     )
 
@@ -108,14 +115,30 @@ bound c =
 total-is : (c : tie.After-known-told Inv-loop μ-loop) → totalAnswer (c .before .before .before .before .before .before .args .config) ≡ Number.Value (c .before .total2 .given .0 .0)
 total-is c = sym (c .before .before .before .total .ensures) ∙ c .before .total2 .given .1
 
+mul-less : tie.Need-mul-less Inv-loop μ-loop
+mul-less c = omega (arith, bound c)
+
+add-less : tie.Need-add-less Inv-loop μ-loop
+add-less c = omega (arith, bound c, total-bound _ _ (total-is (c .before .before)))
+
 mul-result : tie.Need-mul-result Inv-loop μ-loop
 mul-result c = omega (arith, bound c)
 
-add-result : tie.Need-add-result Inv-loop μ-loop
-add-result c = omega (arith, bound c, total-bound _ _ (total-is (c .before .before)))
+-- both sides are small
+held-small : (c : tie.After-loop Inv-loop μ-loop) → 2 * c .before .loop .held < 2 ^ 62
+held-small c = omega (arith, bound c)
 
-mul-result-2 : tie.Need-mul-result-2 Inv-loop μ-loop
-mul-result-2 c = omega (arith, bound c)
+less-small : (c : tie.After-loop Inv-loop μ-loop) → 2 * c .before .loop .gave + c .before .before .before .total2 .given .0 .0 < 2 ^ 62
+less-small c = omega (arith, bound c, total-bound _ _ (total-is (c .before .before)))
+
+cast-result : tie.Need-cast-result Inv-loop μ-loop
+cast-result c = omega (arith, held-small c)
+
+cast-result-2 : tie.Need-cast-result-2 Inv-loop μ-loop
+cast-result-2 c = omega (arith, less-small c)
+
+sub-result : tie.Need-sub-result Inv-loop μ-loop
+sub-result c = gap-fits _ _ (held-small c) (less-small c)
 
 returns-2 : tie.Need-returns-2 Inv-loop μ-loop
 returns-2 c =
@@ -123,10 +146,12 @@ returns-2 c =
     let l = c .before .loop in
     let e : l .i ≡ a .config .n = omega arith in
     let all : Counted (a .config) (a .received .now) (a .given .now) (a .map) (a .config .n) (l .held) (l .gave) = rw e at (l .inv .1) in
-    quorum-at (a .config) (a .received .now) (a .given .now) (a .map) _ _ _ (total-is (c .before .before)) (all .held-is) (all .gave-is)
+    toZ-ofZ (sub-result c)
+    ∙ gap-is _ _ (held-small c) (less-small c)
+    ∙ margin-at (a .config) (a .received .now) (a .given .now) (a .map) _ _ _ (total-is (c .before .before)) (all .held-is) (all .gave-is)
 
-pub is-quorum-spec : {M : Type 1} → statement M
-is-quorum-spec =
+pub margin-of-spec : {M : Type 1} → statement M
+margin-of-spec =
     tie.close
     (tie.spec
     Inv-loop
@@ -137,7 +162,7 @@ is-quorum-spec =
     returns
     loop-holds
     start-at-requires
-    names-requires
+    bit-requires
     add-held
     mul-held
     shared-slice-read-held
@@ -148,7 +173,10 @@ is-quorum-spec =
     add-i
     loop-less
     loop-again
+    mul-less
+    add-less
     mul-result
-    add-result
-    mul-result-2
+    cast-result
+    cast-result-2
+    sub-result
     returns-2)
