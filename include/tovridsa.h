@@ -5,8 +5,9 @@
  * The store does no input or output and has no clock. A host keeps a record for each server and each desk, calls the functions below, and carries the
  * messages that they write from party to party, in whatever way and order it likes: messages may be lost, doubled, delayed and reordered.
  *
- * A call's answer is a signed 64-bit number: for a refusal -1,000,000 less its number, else what the function says, which is never below 0. Ask and
- * share answer the place after the message that they wrote; serve answers 0 and has that place beside it.
+ * A call's answer is a signed 64-bit number: for a refusal -1,000,000 less its number, else what the function says. Ask and share answer the place
+ * after the message that they wrote; serve answers 0 and has that place beside it. Quorum and margin answer numbers from -16,000 to 16,000, and no other
+ * function answers one below 0: so tell a refusal by tovridsa_refusal, and not by its sign.
  *
  * Nothing has to be checked before a call. Any number, any sequence of bytes and any bits in a record's fields get an answer; a call tests the record
  * first. A refusal leaves records and buffers as they were.
@@ -44,8 +45,8 @@ extern "C" {
 #endif
 
 /*
- * The version of records, functions, answers and message bytes, which is also the number of the format in docs/FORMAT.md. Keep it beside a record in a
- * file and in the frame of a message, and refuse another one: docs/LANDINGS.md says what each has changed.
+ * The version of records and message bytes, which is also the number of the format in docs/FORMAT.md. Keep it beside a record in a file and in the frame
+ * of a message, and refuse another one. Functions and their answers may change without it: docs/LANDINGS.md says what each landing has changed.
  */
 #define TOVRIDSA_VERSION 1
 
@@ -304,6 +305,17 @@ int64_t tovridsa_hear_lent(tovridsa_desk *desk, const uint8_t *msg, size_t len);
 tovridsa_result_answer tovridsa_result(tovridsa_desk desk);
 
 /*
+ * Says how far the operation that runs is from the end of its phase, for people who wait for it: twice the weight of the servers that have answered in
+ * this round, by the desk's own sheet, less that of all servers. The record stays as it is. In a record that was opened and has been through calls only
+ * the number is never above 0, since hear ends the phase then; the weight still missing is half of what it is below 0, rounded down, and 1 more.
+ *
+ *   desk      the record
+ *
+ * Answers that number, from -16,000 to 16,000 (-1,000 n to 1,000 n), or refuses: BAD_HOUSE for the record; IDLE where none runs.
+ */
+int64_t tovridsa_margin(tovridsa_desk desk);
+
+/*
  * Ends the operation that runs, without a result. A write that is dropped may still take effect, at any later time, even after other writes have ended:
  * its requests may be on their way. So a host that lets one desk write at a time does not let another one write before this desk has ended a read.
  *
@@ -338,12 +350,13 @@ int64_t tovridsa_check(uint64_t n, uint64_t f, const uint8_t *msg, size_t len);
 int64_t tovridsa_weight(uint64_t n, uint64_t f, uint64_t server, const uint8_t *msg, size_t len);
 
 /*
- * Says whether servers carry more than half of the weight by a message's sheet.
+ * Says by how much servers carry more than half of the weight by a message's sheet: twice their weight, less that of all servers. Above 0 they are a
+ * quorum; at 0 and below they are not.
  *
  *   map       the servers: bit i, bit 0 worth 1, names server i
  *   n, f, msg, len as in tovridsa_check
  *
- * Answers 1 where they do, else 0, or refuses as tovridsa_check does, and then BAD_HOUSE for a map with a bit >= n.
+ * Answers that number, from -16,000 to 16,000 (-1,000 n to 1,000 n), or refuses as tovridsa_check does, and then BAD_HOUSE for a map with a bit >= n.
  */
 int64_t tovridsa_quorum(uint64_t n, uint64_t f, uint64_t map, const uint8_t *msg, size_t len);
 

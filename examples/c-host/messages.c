@@ -1,6 +1,6 @@
 /*
  * A C host looks at what came over the network: it checks messages, weighs servers, asks for quorums, and counts the seats of a block. Each answer
- * that is a refusal is shown by its number and word.
+ * that is a refusal is shown by its number and word; a number below 0 need not be one.
  */
 #include "tovridsa.h"
 
@@ -49,6 +49,16 @@ static void show(const char *question, int64_t answer)
     printf("\n");
 }
 
+/* A margin: whether it is a quorum's, and if not, how much weight is missing. */
+static void show_margin(const char *servers, int64_t margin)
+{
+    printf("%-48s %" PRId64, servers, margin);
+    if (margin > 0)
+        printf("  a quorum\n");
+    else
+        printf("  no quorum: %" PRId64 " missing\n", -margin / 2 + 1);
+}
+
 /* The three questions about a message, in this cluster. */
 
 static int64_t check(const uint8_t *msg, size_t len)
@@ -76,9 +86,9 @@ int main(void)
         snprintf(question, sizeof question, "weight of server %" PRIu64, server);
         show(question, weight(server, share, sizeof share));
     }
-    show("are servers 2, 3 and 4 a quorum", quorum(0x1C, share, sizeof share));
-    show("are servers 0, 1 and 3", quorum(0x0B, share, sizeof share));
-    show("are servers 2 and 4", quorum(0x14, share, sizeof share));
+    show_margin("servers 2, 3 and 4", quorum(0x1C, share, sizeof share));
+    show_margin("servers 0, 1 and 3", quorum(0x0B, share, sizeof share));
+    show_margin("servers 2 and 4", quorum(0x14, share, sizeof share));
     show("seats on offer", tovridsa_seats(block, sizeof block));
     show("seats of the empty block", tovridsa_seats(NULL, 0));
 
@@ -91,7 +101,7 @@ int main(void)
     show("check it for five servers of which three may crash", tovridsa_check(SERVERS, 3, share, sizeof share));
     show("weight of server 5", weight(5, share, sizeof share));
     show("weight of server 2^32", weight(UINT64_C(1) << 32, share, sizeof share));
-    show("is a map with bit 5 a quorum", quorum(0x3F, share, sizeof share));
+    show("quorum of a map with bit 5", quorum(0x3F, share, sizeof share));
     show("seats of a block of 65 bytes", tovridsa_seats(none, sizeof none));
     return 0;
 }

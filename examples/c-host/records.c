@@ -226,17 +226,23 @@ static int64_t refused(int number)
     return TOVRIDSA_REFUSED - number;
 }
 
-/* Any answer is a refusal from 1 to 14, or not below 0. */
-static void note_answer(int64_t answer)
+/* Any answer is a refusal from 1 to 14, or not below the least that the call tells. */
+static void note_told(int64_t answer, int64_t least)
 {
     int number = tovridsa_refusal(answer);
 
     calls++;
-    CHECK(answer >= 0 || (answer <= refused(TOVRIDSA_BAD_HOUSE) && answer >= refused(TOVRIDSA_LONG)));
+    CHECK(answer >= least || (answer <= refused(TOVRIDSA_BAD_HOUSE) && answer >= refused(TOVRIDSA_LONG)));
     if (number != 0) {
         refusals++;
         met[number]++;
     }
+}
+
+/* No call but quorum and margin tells a number below 0. */
+static void note_answer(int64_t answer)
+{
+    note_told(answer, 0);
 }
 
 static bool same_server(const tovridsa_server *a, const tovridsa_server *b)
@@ -533,6 +539,29 @@ static int64_t try_result(const tovridsa_desk *desk)
     return result.answer;
 }
 
+/* Twice the weight of the servers that have answered, less that of all. */
+static int64_t margin_of(const tovridsa_desk *desk)
+{
+    int64_t margin = -START * (int64_t)desk->config.n;
+
+    for (size_t s = 0; s < desk->config.n; s++)
+        if ((desk->operation.answered >> s & 1) != 0)
+            margin += 2 * weight_of(&desk->replica.ledger, s);
+    return margin;
+}
+
+static int64_t try_margin(const tovridsa_desk *desk)
+{
+    tovridsa_desk given = *desk;
+    int64_t margin = tovridsa_margin(given);
+    int64_t expected = mode_expected(desk, TOVRIDSA_RUNNING);
+
+    CHECK(same_desk(&given, desk));
+    note_told(margin, -MOST_WEIGHT);
+    CHECK(margin <= MOST_WEIGHT && margin == (expected == 0 ? margin_of(desk) : expected));
+    return margin;
+}
+
 static int64_t try_drop(const tovridsa_desk *desk)
 {
     tovridsa_desk given = *desk;
@@ -811,6 +840,7 @@ static void try_desk(const tovridsa_desk *desk, const struct message *m)
     try_ask(desk, server, any_room());
     try_hear(desk, m);
     try_result(desk);
+    try_margin(desk);
     try_drop(desk);
 }
 
