@@ -13,7 +13,7 @@ pub fn dressed(line: &str, dress: u64) -> String {
     let random = &mut Random::new(dress);
     let words: Vec<&str> = line.split(' ').collect();
     let has_hex = match words[0] {
-        "serve" | "hear" | "check" | "weight" | "quorum" | "seats" | "value" => true,
+        "serve" | "hear" | "check" | "weight" | "quorum" | "seats" | "value" | "message" => true,
         "begin" => words[2] == "write",
         _ => false,
     };
@@ -89,6 +89,7 @@ mod tests {
             "begin 7 write 9 A0FF00",
             "serve 3 0 1111 0023030000010001",
             "seats -",
+            "message 5 1 1122",
             "record server 4",
         ] {
             for dress in 0..500 {
