@@ -1,6 +1,7 @@
-//! The four answers that a C host gets, by the model: paper 01, the last
-//! paragraph of "Desk". Each is one signed number; a refusal k is −1,000,000 − k.
-//! `proved` has the same four signatures over the proved library.
+//! The four answers that a C host gets about messages and blocks, by the model:
+//! paper 01, the last paragraph of "Desk". Each is one signed number; a refusal k
+//! is −1,000,000 − k, which no other answer is. `proved` has the same four
+//! signatures over the proved library.
 
 use crate::format::{read, Message};
 use crate::place::{Fault, Place};
@@ -41,13 +42,13 @@ pub fn weight(n: u64, f: u64, server: u64, msg: &[u8]) -> i64 {
     }
 }
 
-/// 1 if the servers that the map names are a quorum by the message's sheet,
-/// otherwise 0.
+/// The margin of the servers that the map names, by the message's sheet: twice
+/// their weight, less W (paper 02, N1).
 pub fn quorum(n: u64, f: u64, map: u64, msg: &[u8]) -> i64 {
     match open(n, f, msg) {
         Ok((config, _)) if !config.names_servers(map) => refusal(BAD_HOUSE),
         // The map is below 2^n, so that no bit of it is lost.
-        Ok((config, message)) => message.ledger.is_quorum(config, map as u16).into(),
+        Ok((config, message)) => message.ledger.margin(config, map as u16),
         Err(fault) => refusal(fault.number),
     }
 }

@@ -1,5 +1,6 @@
-//! A model of paper 01, written by hand from the paper alone, to be compared
-//! with the proved library and the proved program.
+//! A model of paper 01, with the changes of paper 02 that are made, written by
+//! hand from the papers alone, to be compared with the proved library and the
+//! proved program.
 //!
 //! Messages, weights and seats: the first group of modules is the model, the
 //! second the library, with the same four signatures and with all that a C host
@@ -12,10 +13,10 @@
 //!   (`ledger`) for messages that were forged, and the program `cases` around
 //!   them, that speaks lines (`command`, `parse`, `record`, `program`).
 //! - `runs`: long random runs. A run is drawn (`pace`, `player`, `known`; what
-//!   happens in it: `traffic`, `work`, `weight`, `misuse`, `helper`; forged
-//!   messages: `damaged`, `forge`; `spent` is one long run to a counter's end),
-//!   played on a store (`store`, `script`; the program: `process`; the library:
-//!   `library`), seen from outside (`seen`), checked (`check`, `beside`,
+//!   happens in it: `traffic`, `work`, `weight`, `misuse`, `helper`, `asides`;
+//!   forged messages: `damaged`, `forge`; `spent` is one long run to a counter's
+//!   end), played on a store (`store`, `script`; the program: `process`; the
+//!   library: `library`), seen from outside (`seen`), checked (`check`, `beside`,
 //!   `observer`, `operations`, `still`), counted (`tally`, `fate`, `reach`) and
 //!   made short where it fails (`shrink`). `wrong` has the wrong stores that
 //!   come close.

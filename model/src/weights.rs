@@ -62,10 +62,11 @@ impl Config {
         weight - 1 - self.total() / (2 * (self.n - self.f) as i64)
     }
 
-    /// Whether the servers that a map names carry more than half of the weight.
-    pub fn is_quorum(self, weights: &[i64; MOST], map: u16) -> bool {
+    /// Twice the weight of the servers that a map names, less W (paper 02, N1):
+    /// above 0 they are a quorum, and at 0 and below they are not.
+    pub fn margin(self, weights: &[i64; MOST], map: u16) -> i64 {
         let named: i64 = bits(map).map(|server| weights[server]).sum();
-        2 * named > self.total()
+        2 * named - self.total()
     }
 
     /// Whether a map names servers below n only.
@@ -109,9 +110,9 @@ impl Ledger {
             .any(|&weight| !config.above_floor(weight))
     }
 
-    /// Whether the servers that a map names carry more than half of the weight.
-    pub fn is_quorum(&self, config: Config, map: u16) -> bool {
-        config.is_quorum(&self.weights(), map)
+    /// The margin of the servers that a map names.
+    pub fn margin(&self, config: Config, map: u16) -> i64 {
+        config.margin(&self.weights(), map)
     }
 }
 
@@ -154,6 +155,22 @@ mod tests {
             let config = Config::level(n, f);
             assert!(config.above_floor(START - gift));
             assert!(!config.above_floor(START - gift - 1));
+        }
+    }
+
+    #[test]
+    fn margins_of_fresh_servers() {
+        for (n, map, margin) in [
+            (4, 0b0011, 0),
+            (4, 0b1110, 2_000),
+            (5, 0b1_0001, -1_000),
+            (5, 0b0_0111, 1_000),
+            (1, 0, -1_000),
+            (16, 0, -16_000),
+            (16, u16::MAX, 16_000),
+        ] {
+            let config = Config::level(n, 0);
+            assert_eq!(Ledger::FRESH.margin(config, map), margin, "{n} {map:b}");
         }
     }
 

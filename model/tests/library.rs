@@ -139,5 +139,39 @@ fn a_refused_open_hands_back_a_record_that_no_call_accepts() {
     assert_eq!(desks::hear_lent(&mut lent, &[]), bad_house);
     assert_eq!(lent, desk);
     assert_eq!(desks::result(desk).answer, bad_house);
+    assert_eq!(desks::margin(desk), bad_house);
     assert_eq!(desks::drop(desk), refused);
+}
+
+/// A margin is that of the servers that the record says have answered, by the
+/// record's own cells, whatever they are: also above 0, which no call leaves
+/// behind. 1 comes before 9.
+#[test]
+fn margins_of_records() {
+    let mut desk = desks::open(5, 1, 7).desk;
+    assert_eq!(desks::margin(desk), refusal(9));
+    desk = desks::begin_read(desk, 0).desk;
+    assert_eq!(desks::margin(desk), -5_000);
+    let ledger = &mut desk.replica.ledger;
+    (ledger.counts[0], ledger.cells[0][2]) = (1, 374);
+    (ledger.counts[1], ledger.cells[1][2]) = (1, 374);
+    for (answered, margin) in [
+        (0, -5_000),
+        (0b0_0001, -3_748),
+        (0b0_0101, -252),
+        (0b1_0100, 496),
+        (0b1_1111, 5_000),
+        (0b10_0000, refusal(1)),
+    ] {
+        desk.operation.answered = answered;
+        assert_eq!(desks::margin(desk), margin, "{answered:b}");
+    }
+    desk.operation.answered = 0b0_0101;
+    let ended = desks::drop(desk).desk;
+    assert_eq!(desks::margin(ended), refusal(9));
+    // One more than server 0 can spare: the record is light.
+    desk.replica.ledger.cells[0][2] = 375;
+    assert_eq!(desks::margin(desk), refusal(1));
+    desk.operation.mode = 2;
+    assert_eq!(desks::margin(desk), refusal(1));
 }

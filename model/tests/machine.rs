@@ -1,6 +1,6 @@
 //! The plain machine on the examples of paper 01, "Checked by the prover": cases
-//! 1 to 9 and the share in hex, and a write and a read across a transfer. The
-//! model over counts and cells has to agree.
+//! 1 to 9 and the share in hex, and a write and a read across a transfer; and on
+//! margins (paper 02, N1). The model over counts and cells has to agree.
 
 use model::machine::calls::Right;
 use model::machine::command::{hex, Command};
@@ -49,8 +49,14 @@ fn cases_1_to_6_transfers_at_the_floor() {
 fn case_7_two_fresh_servers_of_four() {
     for f in [0, 1] {
         let script = ["share 0 0 1111", "quorum 3 @1", "quorum 7 @1"];
-        assert_eq!(answers(4, f, &script)[2..], ["0", "1"]);
+        assert_eq!(answers(4, f, &script)[2..], ["0", "2000"]);
     }
+}
+
+#[test]
+fn two_fresh_servers_of_five() {
+    let script = ["share 0 0 1111", "quorum 3 @1", "quorum 7 @1"];
+    assert_eq!(answers(5, 1, &script)[2..], ["-1000", "1000"]);
 }
 
 #[test]
@@ -64,7 +70,75 @@ fn cases_8_and_9_quorums_after_two_gifts() {
         "quorum 20 @5",
         "quorum 5 @5",
     ];
-    assert_eq!(answers(5, 1, &script)[6..], ["1", "0"]);
+    assert_eq!(answers(5, 1, &script)[6..], ["496", "-252"]);
+}
+
+/// The words of a script that take a reply of server i in a round: ask, serve
+/// and hear. Their messages are those of the lines before.
+fn exchange(desk: u64, server: u64, line: usize) -> [String; 3] {
+    [
+        format!("ask {desk} {server} 0 1111"),
+        format!("serve {server} 0 1111 @{line}"),
+        format!("hear {desk} @{}", line + 1),
+    ]
+}
+
+/// A read of four servers, then one across a transfer, each line of `margin`
+/// with what it answers.
+#[test]
+fn margins_of_an_operation() {
+    let mut script: Vec<String> = Vec::new();
+    let mut expected: Vec<(usize, &str)> = Vec::new();
+    let mut margin = |script: &mut Vec<String>, answer| {
+        script.push("margin 7".to_string());
+        expected.push((script.len(), answer));
+    };
+    let hear = |script: &mut Vec<String>, server| {
+        let line = script.len() + 1;
+        script.extend(exchange(7, server, line));
+    };
+    margin(&mut script, "no 9");
+    script.push("begin 7 read 0".to_string());
+    margin(&mut script, "ok -4000");
+    hear(&mut script, 0);
+    margin(&mut script, "ok -2000");
+    hear(&mut script, 0); // the same server once more
+    margin(&mut script, "ok -2000");
+    hear(&mut script, 2);
+    margin(&mut script, "ok 0");
+    hear(&mut script, 3); // phase 2 begins
+    margin(&mut script, "ok -4000");
+    hear(&mut script, 1);
+    margin(&mut script, "ok -2000");
+    script.push("transfer 3 1 333".to_string());
+    hear(&mut script, 3); // a restart
+    margin(&mut script, "ok -4000");
+    hear(&mut script, 1);
+    margin(&mut script, "ok -1334");
+    hear(&mut script, 3);
+    margin(&mut script, "ok 0");
+    hear(&mut script, 2); // it ends
+    margin(&mut script, "no 9");
+    script.push("begin 7 write 0 A0".to_string());
+    margin(&mut script, "ok -4000");
+    hear(&mut script, 1);
+    margin(&mut script, "ok -1334");
+    script.push("drop 7".to_string());
+    margin(&mut script, "no 9");
+    let lines: Vec<&str> = script.iter().map(String::as_str).collect();
+    let answers = answers(4, 1, &lines);
+    for (line, answer) in expected {
+        assert_eq!(answers[line], answer, "line {line}");
+    }
+}
+
+#[test]
+fn margins_of_nobody() {
+    let script = ["margin 0", "margin 65536", "margin 65535", "margin 1"];
+    assert_eq!(
+        answers(3, 1, &script)[1..],
+        ["no 1", "no 1", "no 9", "no 9"]
+    );
 }
 
 #[test]

@@ -1,10 +1,11 @@
 //! The examples of paper 01, "Checked by the prover", on the model and on the
 //! proved library. Cases 1 to 6 are about a transfer; here they are the share
 //! that carries it: where the transfer passes the share is read, and where it
-//! would be thin the share is light.
+//! would be thin the share is light. Cases 7 to 9 are margins (paper 02, N1).
 
 use model::answers::refusal;
 use model::format::{Kind, Message, Register};
+use model::runs::pace::pairs;
 use model::seats::{ALL_FREE, SOLD_OUT, TOO_LONG, TWO_SOLD};
 use model::weights::Ledger;
 use model::write::write;
@@ -91,11 +92,29 @@ fn cases_1_to_6_as_shares() {
     }
 }
 
+/// The maps of so many servers of n.
+fn maps(n: u64, servers: u32) -> impl Iterator<Item = u64> {
+    (0..1 << n).filter(move |map: &u64| map.count_ones() == servers)
+}
+
 #[test]
 fn case_7_two_fresh_servers_of_four() {
     for f in [0, 1] {
-        assert_eq!(quorum(4, f, 0b0011, &share(&[])), 0);
-        assert_eq!(quorum(4, f, 0b0111, &share(&[])), 1);
+        for map in maps(4, 2) {
+            assert_eq!(quorum(4, f, map, &share(&[])), 0, "{map:04b}");
+        }
+        for map in maps(4, 3) {
+            assert_eq!(quorum(4, f, map, &share(&[])), 2_000, "{map:04b}");
+        }
+    }
+}
+
+#[test]
+fn two_fresh_servers_of_five() {
+    for f in [0, 1, 2] {
+        for map in maps(5, 2) {
+            assert_eq!(quorum(5, f, map, &share(&[])), -1_000, "{map:05b}");
+        }
     }
 }
 
@@ -103,8 +122,19 @@ fn case_7_two_fresh_servers_of_four() {
 fn cases_8_and_9_quorums_after_two_gifts() {
     let message = share(&[(0, 2, 374), (1, 2, 374)]);
     assert_eq!(check(5, 1, &message), 0);
-    assert_eq!(quorum(5, 1, 0b1_0100, &message), 1);
-    assert_eq!(quorum(5, 1, 0b0_0101, &message), 0);
+    assert_eq!(quorum(5, 1, 0b1_0100, &message), 496);
+    assert_eq!(quorum(5, 1, 0b0_0101, &message), -252);
+}
+
+/// The margins of nobody and of everybody, which are the ends of the range.
+#[test]
+fn a_margin_is_from_minus_w_to_w() {
+    for (n, f) in pairs() {
+        let w = 1_000 * n as i64;
+        assert_eq!(quorum(n, f, 0, &share(&[])), -w);
+        assert_eq!(quorum(n, f, (1 << n) - 1, &share(&[])), w);
+        assert_eq!(quorum(n, f, 1 << n, &share(&[])), refusal(HOUSE));
+    }
 }
 
 #[test]
@@ -151,7 +181,7 @@ fn the_longest_message() {
     assert_eq!(bytes.len(), 1_111);
     assert_eq!(check(16, 7, &bytes), 0);
     assert_eq!(weight(16, 7, 15, &bytes), 1_000);
-    assert_eq!(quorum(16, 7, 0x01FF, &bytes), 1);
+    assert_eq!(quorum(16, 7, 0x01FF, &bytes), 2_000);
     assert_eq!(quorum(16, 7, 0x00FF, &bytes), 0);
     // Each row's total is at its upper end; with a transfer fewer it is above.
     let mut fewer = longest();

@@ -1,6 +1,6 @@
 //! Wrong stores, executed: paper 01, "Wrong stores that come close". The same
 //! generator and the same checks as for the compiled program. Each wrong store
-//! is caught, by every clause that the paper names for it; the plain machine
+//! is caught, by every clause that is listed for it; the plain machine
 //! passes. `cargo test --release --test wrong -- --nocapture` shows the table.
 
 mod common;

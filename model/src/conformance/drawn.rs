@@ -169,14 +169,14 @@ fn crashes(turn: &Turn, party: Party) -> bool {
 }
 
 /// Whether a line is the party's, or names nobody. Lines that a store does not
-/// answer by itself are nobody's.
+/// answer by itself are nobody's, and margins are left out.
 fn is_about(turn: &Turn, party: Party, n: u64) -> bool {
     if matches!(turn.answer(), "" | "what" | "bounds" | "crashed") {
         return false;
     }
     match (&turn.command, party) {
         (Command::House { .. }, _) => true,
-        (Command::Crash { .. }, _) => false,
+        (Command::Crash { .. } | Command::Margin { .. }, _) => false,
         (command, Party::Server(own)) => command
             .server()
             .is_some_and(|server| server == own || server >= n),

@@ -13,6 +13,8 @@ pub fn kind(line: &str, answer: &str) -> String {
             _ => "a write",
         },
         ("result", _) => result(answer),
+        ("margin", _) if answer == "ok 0" => "0",
+        ("margin", _) if answer.starts_with("ok -") => "below 0",
         ("record", _) => "shown",
         ("message", _) => "accepted",
         _ => "ok",

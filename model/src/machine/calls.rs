@@ -91,6 +91,12 @@ pub trait Calls<S: Sheet> {
     fn drop(&self, cluster: &mut Cluster<S>, desk: u16) -> Result<(), No> {
         cluster.desk(desk).drop()
     }
+
+    /// No step: a question that changes nothing.
+    fn margin(&self, cluster: &mut Cluster<S>, desk: u16) -> Result<i64, No> {
+        let config = cluster.config;
+        cluster.desk(desk).margin(config)
+    }
 }
 
 /// The store that was asked for.

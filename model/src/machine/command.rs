@@ -18,6 +18,7 @@ pub enum Command<M> {
     Hear { desk: u64, message: M },
     Result { desk: u64 },
     Drop { desk: u64 },
+    Margin { desk: u64 },
     Transfer { giver: u64, taker: u64, amount: u64 },
     Crash { server: u64 },
     Check { bytes: Vec<u8> },
@@ -64,6 +65,7 @@ impl<M> Command<M> {
             &Command::Share { server, room } => Command::Share { server, room },
             &Command::Result { desk } => Command::Result { desk },
             &Command::Drop { desk } => Command::Drop { desk },
+            &Command::Margin { desk } => Command::Margin { desk },
             &Command::Transfer {
                 giver,
                 taker,
@@ -141,6 +143,7 @@ impl<M> Command<M> {
             | Command::Hear { desk, .. }
             | Command::Result { desk }
             | Command::Drop { desk }
+            | Command::Margin { desk }
             | Command::RecordDesk { desk } => Some(*desk),
             _ => None,
         }
@@ -191,6 +194,7 @@ impl<M> Command<M> {
             Command::Hear { desk, message } => format!("hear {desk} {}", hex(bytes_of(message))),
             Command::Result { desk } => format!("result {desk}"),
             Command::Drop { desk } => format!("drop {desk}"),
+            Command::Margin { desk } => format!("margin {desk}"),
             Command::Transfer {
                 giver,
                 taker,

@@ -1,6 +1,6 @@
-//! The desk, which is the client: paper 01, "Desk". Hear is made of parts (which
-//! replies are current, restart, mark, choose, finish), so that a wrong store
-//! can exchange one and share the rest.
+//! The desk, which is the client: paper 01, "Desk", and its margin of paper 02,
+//! N1. Hear is made of parts (which replies are current, restart, mark, choose,
+//! finish), so that a wrong store can exchange one and share the rest.
 
 use std::rc::Rc;
 
@@ -137,6 +137,13 @@ impl<S: Sheet> Desk<S> {
         }
     }
 
+    /// The margin of the servers that answered in this round, by the desk's own
+    /// sheet: how far the operation is from a quorum.
+    pub fn margin(&self, config: Config) -> Result<i64, No> {
+        let operation = self.running().ok_or(No::IDLE)?;
+        Ok(self.pair.sheet.margin(config, operation.answered))
+    }
+
     pub fn drop(&mut self) -> Result<(), No> {
         self.running().ok_or(No::IDLE)?;
         self.activity = Activity::None;
@@ -181,7 +188,7 @@ impl<S: Sheet> Desk<S> {
         letter: &Letter<S>,
     ) -> Result<(), No> {
         operation.answered |= 1 << letter.server;
-        let quorum = self.pair.sheet.is_quorum(config, operation.answered);
+        let quorum = self.pair.sheet.margin(config, operation.answered) > 0;
         self.marked(operation, letter, quorum)
     }
 

@@ -107,6 +107,9 @@ impl<'a> Words<'a> {
             "drop" => Command::Drop {
                 desk: self.number()?,
             },
+            "margin" => Command::Margin {
+                desk: self.number()?,
+            },
             "transfer" => Command::Transfer {
                 giver: self.number()?,
                 taker: self.number()?,
@@ -221,6 +224,9 @@ mod tests {
             "hear -7 00",
             "drop 1 2",
             "drop +1",
+            "margin",
+            "margin 1 2",
+            "margin -1",
             "Drop 1",
             "drop 18446744073709551616",
             "begin 1 read 4294967296",

@@ -30,6 +30,7 @@ pub enum Answer {
     Late,
     Wrote { next: u64, bytes: Vec<u8> },
     Told(Outcome),
+    Margin(i64),
     Refused(No),
     Crashed,
     What,
@@ -52,6 +53,7 @@ impl fmt::Display for Answer {
                 let (tag, value) = (register.tag, hex(&register.value));
                 write!(f, "ok {kind} {} {} {restarts} {value}", tag.stamp, tag.desk)
             }
+            Answer::Margin(margin) => write!(f, "ok {margin}"),
             Answer::Refused(No(number)) => write!(f, "no {number}"),
             Answer::Crashed => write!(f, "crashed"),
             Answer::What => write!(f, "what"),
@@ -144,6 +146,10 @@ impl<S: Sheet, C: Calls<S>> Program<S, C> {
                 let (calls, cluster, desk) = self.desk(desk)?;
                 calls.drop(cluster, desk)?;
                 Ok(Answer::Done)
+            }
+            &Command::Margin { desk } => {
+                let (calls, cluster, desk) = self.desk(desk)?;
+                Ok(Answer::Margin(calls.margin(cluster, desk)?))
             }
             &Command::Transfer {
                 giver,

@@ -41,9 +41,9 @@ pub trait Sheet: Clone {
     /// The message that is handed to a call, or the number of its checks.
     fn open(config: Config, message: &Handed, sent: &[Letter<Self>]) -> Result<Letter<Self>, No>;
 
-    /// Whether the servers that a map names carry more than half of the weight.
-    fn is_quorum(&self, config: Config, map: u16) -> bool {
-        config.is_quorum(&self.weights(), map)
+    /// The margin of the servers that a map names: above 0 they are a quorum.
+    fn margin(&self, config: Config, map: u16) -> i64 {
+        config.margin(&self.weights(), map)
     }
 }
 

@@ -11,6 +11,7 @@ extern "C" {
     fn tovridsa_hear(desk: Desk, msg: *const u8, len: usize) -> DeskAnswer;
     fn tovridsa_hear_lent(desk: *mut Desk, msg: *const u8, len: usize) -> i64;
     fn tovridsa_result(desk: Desk) -> ResultAnswer;
+    fn tovridsa_margin(desk: Desk) -> i64;
     fn tovridsa_drop(desk: Desk) -> DeskAnswer;
 }
 
@@ -65,6 +66,13 @@ pub fn hear_lent(desk: &mut Desk, msg: &[u8]) -> i64 {
 pub fn result(desk: Desk) -> ResultAnswer {
     // SAFETY: as in `begin_read`.
     unsafe { tovridsa_result(desk) }
+}
+
+/// How far the operation that runs is from a quorum: the margin of the servers
+/// that answered in this round.
+pub fn margin(desk: Desk) -> i64 {
+    // SAFETY: as in `begin_read`.
+    unsafe { tovridsa_margin(desk) }
 }
 
 /// Ends the operation that runs.

@@ -29,8 +29,8 @@ pub fn weight(n: u64, f: u64, server: u64, msg: &[u8]) -> i64 {
     unsafe { tovridsa_weight(n, f, server, msg.as_ptr(), msg.len()) }
 }
 
-/// 1 if the servers that the map names are a quorum by the message's sheet,
-/// otherwise 0.
+/// The margin of the servers that the map names, by the message's sheet: twice
+/// their weight, less W. Above 0 they are a quorum.
 pub fn quorum(n: u64, f: u64, map: u64, msg: &[u8]) -> i64 {
     // SAFETY: as in `check`; a map bit of n or more is refused by the function.
     unsafe { tovridsa_quorum(n, f, map, msg.as_ptr(), msg.len()) }

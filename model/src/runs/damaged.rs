@@ -38,6 +38,7 @@ pub fn draw_damaged(
         } else if let Some(words) = forged_step(&mut player) {
             count(words);
         }
+        player.aside();
     }
     player.finish()
 }

@@ -34,6 +34,7 @@ pub fn play(random: Random, pace: Pace, store: &mut dyn Store) -> Run {
         if player.random.one_in(8) {
             player.show_untaken();
         }
+        player.aside();
         // Seldom a new cluster takes the place of the old.
         if player.random.one_in(2_000) {
             player.give(Command::level(n, f));
@@ -84,6 +85,7 @@ fn early(player: &mut Player) {
         if player.random.one_in(2) {
             player.give(command);
         }
+        player.aside();
     }
     for _ in 0..player.random.below(3) {
         player.of_message();

@@ -90,6 +90,7 @@ mod tests {
             "serve 3 0 1111 0023030000010001",
             "seats -",
             "message 5 1 1122",
+            "margin 7",
             "record server 4",
         ] {
             for dress in 0..500 {

@@ -12,7 +12,7 @@ use crate::machine::server::Room;
 use crate::random::{bad_cluster, block, server_map};
 
 /// Lines that cannot be read.
-const UNREADABLE: [&str; 24] = [
+const UNREADABLE: [&str; 26] = [
     "hello",
     "house",
     "house 5",
@@ -37,6 +37,8 @@ const UNREADABLE: [&str; 24] = [
     "record house 1",
     "RESULT 1",
     "result 1 ;",
+    "margin",
+    "margin 1 0",
 ];
 
 /// Characters that mean something in a line, or nearly.
@@ -72,8 +74,7 @@ impl Player<'_> {
     /// The calls that take a message alone, on one that was sent or on any.
     pub fn of_message(&mut self) {
         let case = Case::draw(self.random.word(), 0);
-        let mut latest = self.turns.iter().rev().take(40);
-        let sent = latest.find_map(|turn| turn.sent());
+        let sent = self.latest().take(40).find_map(|turn| turn.sent());
         let bytes = match sent {
             Some(bytes) if !self.random.one_in(3) => bytes,
             _ => case.message,

@@ -6,6 +6,7 @@
 
 #![forbid(unsafe_code)]
 
+pub mod asides;
 pub mod beside;
 pub mod check;
 pub mod damaged;

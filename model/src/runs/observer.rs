@@ -1,19 +1,20 @@
 //! Somebody who sees the lines and the answers alone, and checks the clauses of
 //! demand 3 on them: the operations' clauses, and the sheets, that on every
 //! sheet held or sent the weights total W, each is above the floor and any n − f
-//! servers are a quorum (paper 01, "Sheets").
+//! servers are a quorum (paper 01, "Sheets"). And that margins which are told are
+//! those of operations that go on (paper 02, N1).
 
 use std::fmt;
 
 use super::operations::{Breach, Operations};
 use super::script::Turn;
-use super::seen::{refused, shown, told, Shown};
+use super::seen::{margin, refused, shown, told, Shown};
 use crate::format::read;
 use crate::machine::command::Command;
 use crate::machine::desk::Task;
 use crate::weights::{Config, START};
 
-/// What demand 3 asks of a run.
+/// What is asked of a run, by demand 3 and beside it.
 #[derive(Clone, Copy, Debug, PartialEq, Eq, PartialOrd, Ord, Hash)]
 pub enum Clause {
     /// Every answer and every byte sent is the plain machine's.
@@ -22,6 +23,9 @@ pub enum Clause {
     Values,
     Restarts,
     Sheets,
+    /// The margin of an operation that runs is from −W to 0. This is no clause of
+    /// demand 3.
+    Margins,
 }
 
 impl fmt::Display for Clause {
@@ -112,6 +116,10 @@ impl Observer {
                 Some(told) => self.operations.told(*desk as u16, &told),
                 None => Vec::new(),
             },
+            Command::Margin { desk } => match margin(answer) {
+                Some(margin) => goes_on(config, *desk, margin).into_iter().collect(),
+                None => Vec::new(),
+            },
             Command::RecordServer { .. } => match shown(answer) {
                 Some(shown) => sound(config, &shown).into_iter().collect(),
                 None => Vec::new(),
@@ -131,6 +139,16 @@ impl Observer {
             },
         }
     }
+}
+
+/// Above 0 the phase would have ended; and no weight is below 0, so that the
+/// least is that of nobody.
+fn goes_on(config: Config, desk: u64, margin: i64) -> Option<Breach> {
+    if (-config.total()..=0).contains(&margin) {
+        return None;
+    }
+    let words = format!("the operation of desk {desk} runs with a margin of {margin}");
+    Some((Clause::Margins, words))
 }
 
 /// The clause of sheets, on a record.

@@ -1,6 +1,7 @@
 //! The player of a run: gives a store one line after the other and keeps the
 //! script, the turns and what is known from the answers.
 
+use super::asides::Asides;
 use super::known::{Known, Post};
 use super::pace::Pace;
 use super::script::{replay, with_records, Entry, Source, Stage, Turn};
@@ -38,6 +39,8 @@ impl Run {
 
 pub struct Player<'a> {
     pub random: Random,
+    /// What is asked in between.
+    pub asides: Asides,
     pub pace: Pace,
     pub known: Known,
     pub entries: Vec<Entry>,
@@ -53,6 +56,7 @@ impl<'a> Player<'a> {
     pub fn new(random: Random, pace: Pace, store: &'a mut dyn Store) -> Player<'a> {
         let config = Config::level(pace.n, pace.f);
         Player {
+            asides: Asides::of_run(&random),
             random,
             pace,
             known: Known::new(config),
@@ -82,11 +86,24 @@ impl<'a> Player<'a> {
     /// Gives the store a line. What it sent, if anything, is not on its way yet.
     pub fn give(&mut self, command: Command<Source>) -> (String, Option<Post>) {
         let text = matches!(command, Command::Text(_));
-        let dress = if self.pace.dressed && !text && self.random.one_in(4) {
-            self.random.word()
-        } else {
-            0
+        let dress = match self.pace.dressed && !text {
+            true => dress(&mut self.random),
+            false => 0,
         };
+        self.give_dressed(command, dress)
+    }
+
+    /// Gives it a line that is asked in between.
+    pub fn give_aside(&mut self, command: Command<Source>) {
+        let dress = match self.pace.dressed {
+            true => dress(&mut self.asides.random),
+            false => 0,
+        };
+        self.asides.lines.insert(self.entries.len());
+        self.give_dressed(command, dress);
+    }
+
+    fn give_dressed(&mut self, command: Command<Source>, dress: u64) -> (String, Option<Post>) {
         let entry = Entry {
             number: self.entries.len(),
             command,
@@ -148,7 +165,7 @@ impl<'a> Player<'a> {
 
     /// Shows the record of a party whose last step was refused or late.
     pub fn show_untaken(&mut self) {
-        let Some(turn) = self.turns.last() else {
+        let Some(turn) = self.latest().next() else {
             return;
         };
         if refused(turn.answer()).is_none() && turn.answer() != "late" {
@@ -175,5 +192,13 @@ impl<'a> Player<'a> {
             },
             _ => ROOMY,
         }
+    }
+}
+
+/// How a line is written: plainly, or now and then in another way.
+fn dress(random: &mut Random) -> u64 {
+    match random.one_in(4) {
+        true => random.word(),
+        false => 0,
     }
 }

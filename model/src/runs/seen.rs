@@ -39,6 +39,11 @@ pub fn told(answer: &str) -> Option<Told> {
     })
 }
 
+/// The margin, of `ok MARGIN`.
+pub fn margin(answer: &str) -> Option<i64> {
+    answer.strip_prefix("ok ")?.parse().ok()
+}
+
 /// A record's line: what server and desk have in common.
 #[derive(Clone, Debug, PartialEq, Eq)]
 pub struct Shown {

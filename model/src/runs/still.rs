@@ -1,6 +1,7 @@
 //! A record stays as it was while nothing accepted could have changed it: a
 //! refused or late step changes nothing (paper 01, "The runs of demand 3"), nor
-//! do ask, share and result. Checked on a store's own lines that show a record.
+//! do ask, share, result and margin. Checked on a store's own lines that show a
+//! record.
 
 use std::collections::BTreeMap;
 

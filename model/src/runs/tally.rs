@@ -6,7 +6,8 @@ use std::collections::{BTreeMap, BTreeSet};
 
 use super::fate::Fates;
 use super::script::Turn;
-use super::seen::{refused, shown, told, Mode};
+use super::seen::{margin, refused, shown, told, Mode};
+use crate::answers::refusal;
 use crate::format::{read, Kind};
 use crate::machine::command::Command;
 use crate::machine::desk::Task;
@@ -16,6 +17,7 @@ use crate::weights::Config;
 #[derive(Clone, Copy, Default)]
 struct Activity {
     running: bool,
+    ended: bool,
     restarts: u64,
 }
 
@@ -92,11 +94,7 @@ impl Tally {
             return self.reach_if(answer == "no 1", "line: no 1 before a house");
         };
         if turn.command.takes_message_alone() {
-            let refusal = answer.starts_with("-10000") || refused(answer).is_some();
-            let end = if refusal { "refused" } else { "accepted" };
-            let line = turn.command.line(|message| &message.bytes);
-            let call = line.split(' ').next().unwrap_or_default();
-            return self.reach(format!("{call}: {end}"));
+            return self.see_alone(turn);
         }
         self.see_parties(turn, config);
         if answer != "no 1" {
@@ -108,6 +106,24 @@ impl Tally {
             }
             _ => None,
         };
+    }
+
+    /// A call that takes a message alone.
+    fn see_alone(&mut self, turn: &Turn) {
+        let number = turn.answer().parse::<i64>().ok();
+        let is_code = number.is_some_and(|number| number <= refusal(1));
+        let is_refused = is_code || refused(turn.answer()).is_some();
+        let end = if is_refused { "refused" } else { "accepted" };
+        let line = turn.command.line(|message| &message.bytes);
+        let call = line.split(' ').next().unwrap_or_default();
+        self.reach(format!("{call}: {end}"));
+        if let (Command::Quorum { .. }, Some(margin), false) = (&turn.command, number, is_refused) {
+            self.reach(match margin.signum() {
+                1 => "quorum: above 0",
+                0 => "quorum: 0",
+                _ => "quorum: below 0",
+            });
+        }
     }
 
     fn open(&mut self, n: u64, f: u64) {
@@ -160,9 +176,11 @@ impl Tally {
             Command::Begin { desk, task, .. } => {
                 self.reach_call("begin", no);
                 if no.is_none() {
-                    let running = true;
-                    let restarts = 0;
-                    self.desks.insert(*desk, Activity { running, restarts });
+                    let begun = Activity {
+                        running: true,
+                        ..Activity::default()
+                    };
+                    self.desks.insert(*desk, begun);
                 }
                 if let (Task::Write(value), "ok") = (task, answer) {
                     self.reach_if(value.is_empty(), "write: value of 0 bytes");
@@ -173,7 +191,9 @@ impl Tally {
             Command::Share { .. } => self.reach_call("share", no),
             Command::Drop { desk } => {
                 self.reach_call("drop", no);
-                self.desks.insert(*desk, Activity::default());
+                if no.is_none() {
+                    self.desks.insert(*desk, Activity::default());
+                }
             }
             Command::Result { .. } => {
                 self.reach_call("result", no);
@@ -209,6 +229,7 @@ impl Tally {
                 self.reach_if(self.crashed.len() > config.f(), "crash: more than f");
             }
             Command::RecordDesk { desk } => self.see_desk(*desk, answer),
+            Command::Margin { desk } => self.see_margin(config, *desk, answer),
             _ => {}
         }
         if let (Some(bytes), Some(room)) = (turn.sent(), turn.command.room()) {
@@ -277,7 +298,11 @@ impl Tally {
         };
         let running = now.mode == Mode::Running;
         let restarts = now.restarts;
-        let after = Activity { running, restarts };
+        let after = Activity {
+            running,
+            ended: now.mode == Mode::Ended,
+            restarts,
+        };
         let before = self.desks.insert(desk, after).unwrap_or_default();
         let kind = if now.write { "write" } else { "read" };
         if running && restarts > before.restarts {
@@ -286,5 +311,18 @@ impl Tally {
         if before.running && now.mode == Mode::Ended {
             self.reach(format!("ended: {kind}"));
         }
+    }
+
+    fn see_margin(&mut self, config: Config, desk: u64, answer: &str) {
+        let ended = self.desks.get(&desk).is_some_and(|desk| desk.ended);
+        let Some(margin) = margin(answer) else {
+            return match ended {
+                true => self.reach("margin: no 9, ended"),
+                false => self.reach("margin: no 9, no operation"),
+            };
+        };
+        self.reach("margin: accepted");
+        self.reach_if(margin == -config.total(), "margin: nobody answered");
+        self.reach_if(margin == 0, "margin: 0");
     }
 }

@@ -9,10 +9,10 @@ use model::calls::Answers;
 use model::cases::Case;
 use model::format::{Kind, Message, MOST_PER_TRANSFER};
 use model::place::Place;
-use model::weights::{bits, Config};
+use model::weights::Config;
 
 /// What a case may reach, besides the places of refusal in a message.
-const WORDS: [&str; 23] = [
+const WORDS: [&str; 24] = [
     "number 1",
     "number 2",
     "number 3",
@@ -28,14 +28,15 @@ const WORDS: [&str; 23] = [
     "accepted reply",
     "accepted share",
     "accepted message of 1,111 bytes",
-    "quorum 1",
+    "quorum above 0",
     "quorum 0",
+    "quorum below 0",
     "seats",
     "edge: a row's total is its count",
     "edge: a row's total is 16,000 times its count",
     "edge: with one less a weight would be light",
-    "edge: a map of exactly half of the weight",
-    "edge: with one less a map would be of half of the weight",
+    "edge: a map of one less than half of the weight",
+    "edge: a map of one more than half of the weight",
 ];
 
 pub struct Counts {
@@ -63,8 +64,8 @@ impl Counts {
         self.reach_if(answers[3] >= 0, "seats");
         match open(case.n, case.f, &case.message) {
             Ok((config, message)) => {
-                self.add_accepted(case, &message, answers);
-                self.add_edges(case, config, &message);
+                self.add_accepted(case, config, &message, answers);
+                self.add_edges(config, &message, answers);
             }
             Err(fault) => {
                 *self.places.entry(fault.place).or_default() += 1;
@@ -79,7 +80,7 @@ impl Counts {
         }
     }
 
-    fn add_accepted(&mut self, case: &Case, message: &Message, answers: &Answers) {
+    fn add_accepted(&mut self, case: &Case, config: Config, message: &Message, answers: &Answers) {
         let [_, weight, quorum, _] = *answers;
         self.reach(match message.kind {
             Kind::Request => "accepted request",
@@ -92,11 +93,13 @@ impl Counts {
         );
         self.reach_if(weight == refusal(1), "1 for a server");
         self.reach_if(quorum == refusal(1), "1 for a map");
-        self.reach_if(quorum == 1, "quorum 1");
+        self.reach_if(quorum > 0, "quorum above 0");
         self.reach_if(quorum == 0, "quorum 0");
+        self.reach_if((-config.total()..0).contains(&quorum), "quorum below 0");
     }
 
-    fn add_edges(&mut self, case: &Case, config: Config, message: &Message) {
+    fn add_edges(&mut self, config: Config, message: &Message, answers: &Answers) {
+        let [_, _, quorum, _] = *answers;
         let ledger = &message.ledger;
         let rows = ledger.counts.iter().zip(&ledger.cells);
         let totals = rows.filter(|(&count, _)| count != 0).map(|(&count, row)| {
@@ -120,17 +123,14 @@ impl Counts {
                 .any(|&weight| !config.above_floor(weight - 1)),
             "edge: with one less a weight would be light",
         );
-        if config.names_servers(case.map) {
-            let named: i64 = bits(case.map as u16).map(|server| weights[server]).sum();
-            self.reach_if(
-                2 * named == config.total(),
-                "edge: a map of exactly half of the weight",
-            );
-            self.reach_if(
-                2 * (named - 1) == config.total(),
-                "edge: with one less a map would be of half of the weight",
-            );
-        }
+        self.reach_if(
+            quorum == -2,
+            "edge: a map of one less than half of the weight",
+        );
+        self.reach_if(
+            quorum == 2,
+            "edge: a map of one more than half of the weight",
+        );
     }
 
     fn reach(&mut self, words: &'static str) {

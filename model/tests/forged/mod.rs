@@ -1,10 +1,12 @@
 //! Runs in which messages are damaged or forged on their way, on a store beside
-//! the model over counts and cells. They are counted, and what they must reach
-//! is asserted. TOVRIDSA_SEED, TOVRIDSA_STEPS and TOVRIDSA_FROM as for the other
+//! the model over counts and cells. Forged messages are counted, and the margins
+//! asked for in between, and what they must reach is asserted. TOVRIDSA_SEED, TOVRIDSA_STEPS and TOVRIDSA_FROM as for the other
 //! runs; here a quarter of the steps is played.
 
 use std::collections::BTreeMap;
 
+use model::conformance::kinds::kind;
+use model::machine::command::Command;
 use model::runs::beside::Beside;
 use model::runs::damaged::draw_damaged;
 use model::runs::player::Run;
@@ -13,7 +15,7 @@ use crate::common::{seed, variable};
 
 const STEPS: u64 = 200_000;
 
-/// What forged messages must come to, and how often at least.
+/// What forged messages and margins must come to, and how often at least.
 const REACHED: &[(&str, u64)] = &[
     ("serve: accepted", 500),
     ("serve: no 2", 50),
@@ -45,6 +47,10 @@ const REACHED: &[(&str, u64)] = &[
     ("hear: no 6: an equal tag with another value", 5),
     ("hear: accepted: a row is ahead", 5),
     ("hear: no 12: a stamp at its end", 1),
+    ("margin: below 0", 500),
+    ("margin: 0", 20),
+    ("margin: no 1", 10),
+    ("margin: no 9", 100),
 ];
 
 /// Draws runs and compares store and model on each, in the form in which it is
@@ -67,6 +73,12 @@ pub fn agree(beside: &Beside, form: fn(Run) -> Run) {
         beside
             .compare(&run.entries, &run.turns, number)
             .unwrap_or_else(|report| panic!("seed {seed}, damaged run {number}: {report}"));
+        for turn in &run.turns {
+            let is_margin = matches!(turn.command, Command::Margin { .. });
+            if is_margin && turn.answer() != "bounds" {
+                *counts.entry(kind("margin", turn.answer())).or_default() += 1;
+            }
+        }
         steps += run.steps;
         number += 1;
     }

@@ -112,6 +112,7 @@ impl Library {
             }
             Command::Hear { desk, message } => hear(self.desk(*desk)?, &message.bytes),
             &Command::Result { desk } => told(&desks::result(*self.desk(desk)?)),
+            &Command::Margin { desk } => margin(desks::margin(*self.desk(desk)?)),
             &Command::Drop { desk } => {
                 let held = self.desk(desk)?;
                 let DeskAnswer { answer, desk } = desks::drop(*held);
@@ -271,12 +272,25 @@ fn done(answer: i64) -> Step<Answer> {
 
 /// An answer of 0 or more, or the refusal that it is.
 fn number(answer: i64) -> Step<u64> {
-    let refused = (1..=14).find(|number| answer == refusal(*number));
-    match (u64::try_from(answer), refused) {
+    match (u64::try_from(answer), refused(answer)) {
         (Ok(number), _) => Ok(number),
-        (Err(_), Some(number)) => Err(No(number).into()),
+        (Err(_), Some(no)) => Err(no.into()),
         (Err(_), None) => Err(wrong(answer)),
     }
+}
+
+/// A margin, which may be below 0, or the refusal that the answer is.
+fn margin(answer: i64) -> Step<Answer> {
+    match refused(answer) {
+        None => Ok(Answer::Margin(answer)),
+        Some(no) => Err(no.into()),
+    }
+}
+
+/// The refusal that an answer is, if it is one.
+fn refused(answer: i64) -> Option<No> {
+    let number = (1..=14).find(|number| answer == refusal(*number));
+    number.map(No)
 }
 
 /// The answer where the header rules out what was found.

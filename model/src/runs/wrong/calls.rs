@@ -86,6 +86,10 @@ impl Calls<Transfers> for RefusesAll {
     fn drop(&self, _: &mut Cluster<Transfers>, _: u16) -> Result<(), No> {
         Err(No::BUSY)
     }
+
+    fn margin(&self, _: &mut Cluster<Transfers>, _: u16) -> Result<i64, No> {
+        Err(No::BUSY)
+    }
 }
 
 /// A desk begins nothing from some round on.

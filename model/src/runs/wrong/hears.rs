@@ -114,7 +114,7 @@ pub const NEVER_ENDS: Marking = Marking(|desk, config, operation, letter| match 
 /// Every write chooses the tag (1, 1).
 pub const FIXED_TAG: Marking = Marking(|desk, config, mut operation, letter| {
     operation.answered |= 1 << letter.server;
-    let quorum = desk.pair.sheet.is_quorum(config, operation.answered);
+    let quorum = desk.pair.sheet.margin(config, operation.answered) > 0;
     match (&operation.task, &operation.phase) {
         (Task::Write(value), Phase::First) if quorum => {
             let pair = desk.pair.join(&letter.pair);
@@ -133,6 +133,13 @@ pub const HEAD_COUNT: Marking = Marking(|desk, config, mut operation, letter| {
     operation.answered |= 1 << letter.server;
     let heads = 2 * operation.answered.count_ones() as usize > config.n();
     desk.marked(operation, letter, heads)
+});
+
+/// Exactly half of the weight is a quorum.
+pub const HALF: Marking = Marking(|desk, config, mut operation, letter| {
+    operation.answered |= 1 << letter.server;
+    let margin = desk.pair.sheet.margin(config, operation.answered);
+    desk.marked(operation, letter, margin >= 0)
 });
 
 /// Every reply is late.

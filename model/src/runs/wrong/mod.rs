@@ -10,10 +10,12 @@ use crate::machine::calls::Calls;
 use crate::machine::program::Program;
 use crate::machine::transfers::Transfers;
 use calls::{NoRestarts, RefusesAll, SheetAlone, SpentEarly, Unheard};
-use hears::{AllLate, CountedTwice, FIRST_REPLY, FIXED_TAG, HEAD_COUNT, NEVER_ENDS, OTHER_SHEET};
+use hears::{
+    AllLate, CountedTwice, FIRST_REPLY, FIXED_TAG, HALF, HEAD_COUNT, NEVER_ENDS, OTHER_SHEET,
+};
 
-/// A wrong store: its name, how it is opened, and the clauses that the paper
-/// says it breaks.
+/// A wrong store: its name, how it is opened, and the clauses that it has to
+/// break: those that the paper names, and where it shows the margins.
 pub struct Wrong {
     pub name: &'static str,
     pub open: fn() -> Box<dyn Store>,
@@ -24,8 +26,8 @@ fn store<C: Calls<Transfers> + 'static>(calls: C) -> Box<dyn Store> {
     Box::new(Program::new(calls))
 }
 
-/// The paper's list in its order, and a quorum by heads, which only the
-/// equality excludes.
+/// The paper's list in its order; a quorum by heads, which of demand 3 only the
+/// equality excludes; and half of the weight for a quorum.
 pub const WRONG: &[Wrong] = &[
     Wrong {
         name: "joins a share's sheet but not its register",
@@ -85,6 +87,11 @@ pub const WRONG: &[Wrong] = &[
     Wrong {
         name: "counts heads and not weight",
         open: || store(HEAD_COUNT),
-        breaks: &[Clause::Equality],
+        breaks: &[Clause::Equality, Clause::Margins],
+    },
+    Wrong {
+        name: "takes half of the weight for a quorum",
+        open: || store(HALF),
+        breaks: &[Clause::Equality, Clause::Order],
     },
 ];
