@@ -89,6 +89,11 @@ int64_t HOST(result)(const tovridsa_desk *desk, tovridsa_result_answer *told)
     return told->answer;
 }
 
+int64_t HOST(margin)(const tovridsa_desk *desk)
+{
+    return tovridsa_margin(*desk);
+}
+
 int64_t HOST(drop)(tovridsa_desk *desk)
 {
     tovridsa_desk_answer dropped = tovridsa_drop(*desk);

@@ -41,7 +41,7 @@ int64_t plain_quorum(uint64_t n, uint64_t f, uint64_t map, const uint8_t *msg, s
         return refusal(fault);
     if (map >> n != 0)
         return refusal(BAD_HOUSE);
-    return is_quorum(n, weights, map);
+    return margin(n, weights, map);
 }
 
 /* How many ones a word has: neighbours are added up in pairs, fours and bytes, and the product adds the eight bytes up. */

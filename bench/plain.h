@@ -1,6 +1,7 @@
 /* The message check, a weight, a quorum and the seats on offer in plain C, written by hand: what the proved library is timed against.
  *
- * Each call gives 0 for a message that passes, the weight, 1 or 0 for a quorum, or the seats; a refusal with the number k is -1000000 - k.
+ * Each call gives 0 for a message that passes, the weight, twice the weight of the map less that of all servers, which is above 0 for a quorum, or the
+ * seats; a refusal with the number k is -1000000 - k.
  * `msg` and `block` point to `len` bytes that can be read; with `len` 0 the pointer is not looked at. */
 #ifndef PLAIN_H
 #define PLAIN_H

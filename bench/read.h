@@ -278,15 +278,15 @@ static inline bool above_floor(uint64_t n, uint64_t f, const int64_t weights[SER
     return true;
 }
 
-/* Whether the servers that a map names carry more than half of the weight. */
-static inline bool is_quorum(uint64_t n, const int64_t weights[SERVERS], uint64_t map)
+/* Twice the weight of the servers that a map names, less that of all servers: above 0 they are a quorum. */
+static inline int64_t margin(uint64_t n, const int64_t weights[SERVERS], uint64_t map)
 {
     int64_t weight = 0;
 
     for (unsigned s = 0; s < n; s++)
         if ((map >> s & 1) != 0)
             weight += weights[s];
-    return 2 * weight > START * (int64_t)n;
+    return 2 * weight - START * (int64_t)n;
 }
 
 /* The message, then its weights, which are left in `weights`; the house is good. */

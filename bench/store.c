@@ -507,6 +507,7 @@ int64_t plain_hear(tovridsa_desk *desk, const uint8_t *msg, size_t len)
     struct message m;
     struct join join;
     uint16_t answered;
+    bool quorum;
     int fault;
 
     if (!desk_fits(desk, weights))
@@ -524,12 +525,13 @@ int64_t plain_hear(tovridsa_desk *desk, const uint8_t *msg, size_t len)
         return restart(desk, &m, &join);
 
     answered = (uint16_t)(op->answered | 1 << m.server);
-    if (is_quorum(config->n, weights, answered) && op->phase == 1)
+    quorum = margin(config->n, weights, answered) > 0;
+    if (quorum && op->phase == 1)
         return choose(desk, &m, &join);
     if (join.higher)
         take_register(&held->reg, &m);
     op->answered = answered;
-    if (is_quorum(config->n, weights, answered))
+    if (quorum)
         finish(op);
     return 0;
 }
@@ -550,6 +552,18 @@ int64_t plain_result(const tovridsa_desk *desk, tovridsa_result_answer *told)
     told->reg.desk = op->chosen.desk;
     set_value(&told->reg.value, op->chosen.value.bytes, op->chosen.value.length);
     return 0;
+}
+
+int64_t plain_margin(const tovridsa_desk *desk)
+{
+    const tovridsa_operation *op = &desk->operation;
+    int64_t weights[SERVERS];
+
+    if (!desk_fits(desk, weights))
+        return refusal(BAD_HOUSE);
+    if (op->mode != RUNNING)
+        return refusal(IDLE);
+    return margin(desk->config.n, weights, op->answered);
 }
 
 int64_t plain_drop(tovridsa_desk *desk)

@@ -21,6 +21,7 @@
     int64_t by##_ask(const tovridsa_desk *desk, uint64_t server, uint8_t *out, size_t len, size_t at); \
     int64_t by##_hear(tovridsa_desk *desk, const uint8_t *msg, size_t len); \
     int64_t by##_result(const tovridsa_desk *desk, tovridsa_result_answer *told); \
+    int64_t by##_margin(const tovridsa_desk *desk); \
     int64_t by##_drop(tovridsa_desk *desk)
 
 STORE(plain);

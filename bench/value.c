@@ -81,6 +81,11 @@ tovridsa_result_answer tovridsa_result(tovridsa_desk desk)
     return told;
 }
 
+int64_t tovridsa_margin(tovridsa_desk desk)
+{
+    return plain_margin(&desk);
+}
+
 tovridsa_desk_answer tovridsa_drop(tovridsa_desk desk)
 {
     tovridsa_desk_answer dropped;

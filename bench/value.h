@@ -13,6 +13,7 @@
 #define tovridsa_ask by_value_ask
 #define tovridsa_hear by_value_hear
 #define tovridsa_result by_value_result
+#define tovridsa_margin by_value_margin
 #define tovridsa_drop by_value_drop
 
 #include "../include/tovridsa.h"

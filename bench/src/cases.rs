@@ -153,13 +153,17 @@ enum Call {
     /// A write, on a copy of the record.
     Begin,
     Result,
+    /// How far the read is from a quorum once the reply of server 0 is heard.
+    Margin,
 }
 
-/// What a call is made on: the cluster after its first write, a desk that has begun a read, and the request and the reply of server 0; a request to it
-/// from a desk that has heard of one transfer more, and server 0 where it was told another transfer in the place of that one.
+/// What a call is made on: the cluster after its first write, a desk that has begun a read, the request and the reply of server 0, and the desk that
+/// has heard this; a request to server 0 from a desk that has heard of one transfer more, and server 0 where it was told another transfer in the place
+/// of that one.
 struct Stage<S: Store> {
     cluster: Cluster<S>,
     reading: S::Desk,
+    answered: S::Desk,
     request: Vec<u8>,
     reply: Vec<u8>,
     newer: Vec<u8>,
@@ -178,11 +182,14 @@ impl<S: Store> Stage<S> {
         let request = room[..end].to_vec();
         let (_, end) = store.serve(&mut cluster.servers[0], &request, &mut room, 0);
         let reply = room[..end].to_vec();
+        let mut answered = reading.clone();
+        accepted(store.hear(&mut answered, &reply));
         let newer = Self::newer(&cluster, &reading);
         let misled = Self::misled(&cluster);
         Stage {
             cluster,
             reading,
+            answered,
             request,
             reply,
             newer,
@@ -230,7 +237,7 @@ impl<S: Store> Stage<S> {
             Call::Ask => self.request.len(),
             Call::Share => written(store.share(&self.cluster.servers[0], &mut room, 0)),
             Call::Begin => self.value.len(),
-            Call::Transfer | Call::Result => 0,
+            Call::Transfer | Call::Result | Call::Margin => 0,
         }
     }
 
@@ -270,6 +277,10 @@ impl<S: Store> Stage<S> {
                 out.extend(told.register.value.bytes);
                 told.answer
             }
+            Call::Margin => {
+                desk = self.answered.clone();
+                store.margin(&desk)
+            }
         };
         out.extend(answer.to_le_bytes());
         store.ask(&desk, 1, &mut after, 0);
@@ -283,6 +294,7 @@ impl<S: Store> Stage<S> {
         let Stage {
             cluster,
             mut reading,
+            answered,
             request,
             reply,
             newer,
@@ -339,6 +351,7 @@ impl<S: Store> Stage<S> {
                     store.begin_write(black_box(&mut copy), NOTE, black_box(&value))
                 }),
                 Call::Result => each(times, || store.result(black_box(&idle))),
+                Call::Margin => each(times, || store.margin(black_box(&answered))),
             }
         })
     }
@@ -377,6 +390,7 @@ fn records(scene: fn() -> Scene) -> Vec<Case> {
         case("transfer", Call::Transfer, native::CORE),
         case("begin", Call::Begin, native::CORE),
         case("result", Call::Result, native::CORE),
+        case("margin", Call::Margin, native::CORE),
         valued("serve, C by value", Call::Serve),
         valued("serve, newer rows, C by value", Call::ServeNewer),
         valued("serve, clash, C by value", Call::ServeClash),

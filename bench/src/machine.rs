@@ -147,6 +147,11 @@ impl Store for Model {
     }
 
     #[inline(never)]
+    fn margin(&self, desk: &ModelDesk) -> i64 {
+        desk.desk.margin(desk.config).unwrap_or_else(code)
+    }
+
+    #[inline(never)]
     fn drop(&self, desk: &mut ModelDesk) -> i64 {
         done(desk.desk.drop())
     }

@@ -26,13 +26,14 @@ pub struct Native {
     ask: unsafe extern "C" fn(*const Desk, u64, *mut u8, usize, usize) -> i64,
     hear: unsafe extern "C" fn(*mut Desk, *const u8, usize) -> i64,
     result: unsafe extern "C" fn(*const Desk, *mut ResultAnswer) -> Refused,
+    margin: unsafe extern "C" fn(*const Desk) -> i64,
     drop: unsafe extern "C" fn(*mut Desk) -> Refused,
 }
 
 /// Declares the functions of one row and makes the row.
 macro_rules! row {
     ($name:ident, $open_server:ident, $transfer:ident, $share:ident, $serve:ident, $open_desk:ident, $begin_read:ident, $begin_write:ident,
-     $ask:ident, $hear:ident, $result:ident, $drop:ident) => {
+     $ask:ident, $hear:ident, $result:ident, $margin:ident, $drop:ident) => {
         pub const $name: Native = {
             extern "C" {
                 fn $open_server(server: *mut Server, n: u64, f: u64, number: u64) -> i64;
@@ -54,6 +55,7 @@ macro_rules! row {
                     -> i64;
                 fn $hear(desk: *mut Desk, msg: *const u8, len: usize) -> i64;
                 fn $result(desk: *const Desk, told: *mut ResultAnswer) -> i64;
+                fn $margin(desk: *const Desk) -> i64;
                 fn $drop(desk: *mut Desk) -> i64;
             }
             Native {
@@ -67,6 +69,7 @@ macro_rules! row {
                 ask: $ask,
                 hear: $hear,
                 result: $result,
+                margin: $margin,
                 drop: $drop,
             }
         };
@@ -86,6 +89,7 @@ row!(
     plain_ask,
     plain_hear,
     plain_result,
+    plain_margin,
     plain_drop
 );
 
@@ -102,6 +106,7 @@ row!(
     core_ask,
     core_hear,
     core_result,
+    core_margin,
     core_drop
 );
 
@@ -118,6 +123,7 @@ row!(
     value_ask,
     value_hear,
     value_result,
+    value_margin,
     value_drop
 );
 
@@ -134,6 +140,7 @@ row!(
     core_ask,
     core_hear_lent,
     core_result,
+    core_margin,
     core_drop
 );
 
@@ -199,6 +206,10 @@ impl Store for Native {
         let mut told = untold(0);
         unsafe { (self.result)(desk, &mut told) };
         told
+    }
+
+    fn margin(&self, desk: &Desk) -> i64 {
+        unsafe { (self.margin)(desk) }
     }
 
     fn drop(&self, desk: &mut Desk) -> i64 {

@@ -25,6 +25,7 @@ pub trait Store: Clone + 'static {
     fn ask(&self, desk: &Self::Desk, server: u64, out: &mut [u8], at: usize) -> i64;
     fn hear(&self, desk: &mut Self::Desk, msg: &[u8]) -> i64;
     fn result(&self, desk: &Self::Desk) -> ResultAnswer;
+    fn margin(&self, desk: &Self::Desk) -> i64;
     fn drop(&self, desk: &mut Self::Desk) -> i64;
 
     /// The desk's round.

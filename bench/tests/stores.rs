@@ -22,6 +22,10 @@ const STEPS: u64 = 250;
 /// Stands in a tally for a reply that came too late.
 const LATE: i64 = -1;
 
+/// Stand there for a margin below 0 and above it.
+const BELOW: i64 = -2;
+const ABOVE: i64 = -3;
+
 /// The desks of a run have numbers from 1 to this.
 const DESKS: u64 = 3;
 
@@ -47,6 +51,7 @@ fn servers_and_desks_do_the_same() {
         ("ask", &[0, 1, 9, 13]),
         ("hear", &[LATE, 0, 2, 3, 4, 5, 6, 7, 12]),
         ("result", &[0, 9]),
+        ("margin", &[BELOW, 0, 9]),
         ("drop", &[0, 9]),
     ] {
         for answer in answers {
@@ -65,13 +70,19 @@ fn damaged_records_get_the_same_answers() {
         for step in 0..STEPS {
             trio.step(&mut random, &mut tally, &format!("run {run}, step {step}"));
             if random.one_in(2) {
-                refused += trio.damaged(&mut random, &format!("run {run}, damage {step}"));
+                let words = format!("run {run}, damage {step}");
+                refused += trio.damaged(&mut random, &mut tally, &words);
             }
         }
     }
     // Some damage is to the value's bytes, or to a number within its range.
     let damaged = RUNS * STEPS;
     assert!(refused > damaged / 8, "{refused} of about {damaged}");
+    // No call leaves a margin above 0 in a record, but damage does.
+    for answer in [BELOW, 0, ABOVE, 1, 9] {
+        let times = tally.get(&("margin, damaged", answer));
+        assert!(times.is_some(), "margin of a damaged desk: {answer}");
+    }
 }
 
 #[test]
@@ -88,7 +99,7 @@ fn kinds_and_phases_go_with_the_mode() {
             desk.operation.kind = most_often_small(&mut random);
             desk.operation.phase = most_often_small(&mut random);
             let fits = desk.operation.has_kind_and_phase();
-            let dropped = trio.on_desk(&mut random, i, &desk, &words);
+            let dropped = trio.on_desk(&mut random, &mut Tally::new(), i, &desk, &words);
             assert_eq!(dropped != -1_000_001, fits, "{words}: {:?}", desk.operation);
             *reached.entry((desk.operation.mode, fits)).or_insert(0) += 1;
         }
@@ -121,7 +132,7 @@ struct Trio {
     sent: Vec<Vec<u8>>,
 }
 
-/// How often a call gave an answer: 0, `LATE`, or the number of a refusal.
+/// How often a call gave an answer: 0, `LATE`, `BELOW`, `ABOVE`, or the number of a refusal.
 type Tally = BTreeMap<(&'static str, i64), u64>;
 
 /// What is compared of a call beside its record: the answer, the place after what was written, and the whole buffer.
@@ -239,6 +250,7 @@ impl Trio {
         assert_eq!(answers, [answers[0]; 3], "{words}: begin");
         count(tally, "begin", answers[0]);
         self.compare_desk(i, words);
+        self.margin(tally, i, words);
     }
 
     fn ask(&mut self, random: &mut Random, tally: &mut Tally, i: usize, words: &str) {
@@ -276,6 +288,7 @@ impl Trio {
         assert_eq!([core, plain], [model; 2], "{words}: hear");
         count(tally, "hear", core);
         self.compare_desk(i, words);
+        self.margin(tally, i, words);
     }
 
     fn result(&mut self, tally: &mut Tally, i: usize, words: &str) {
@@ -294,6 +307,17 @@ impl Trio {
         assert_eq!([core, plain], [model; 2], "{words}: drop");
         count(tally, "drop", core);
         self.compare_desk(i, words);
+        self.margin(tally, i, words);
+    }
+
+    /// How far the operation is from a quorum, after every step of a desk.
+    fn margin(&self, tally: &mut Tally, i: usize, words: &str) {
+        let three = &self.desks[i];
+        let core = CORE.margin(&three.core);
+        let plain = [PLAIN, VALUE].map(|by| by.margin(&three.plain));
+        assert_eq!([core; 2], plain, "{words}: margin");
+        assert_eq!(core, Model.margin(&three.model), "{words}: margin");
+        count(tally, "margin", core);
     }
 
     /// A whole operation, in which restarts and ends of phases come about: every server is asked and heard, round by round.
@@ -378,7 +402,7 @@ impl Trio {
 
     /// Copies of a server's and a desk's record are damaged, and each call is made on them by the library and by the C, in place and by value. How many
     /// records were refused.
-    fn damaged(&self, random: &mut Random, words: &str) -> u64 {
+    fn damaged(&self, random: &mut Random, tally: &mut Tally, words: &str) -> u64 {
         let i = random.index(self.servers.len());
         let mut server = self.servers[i].core;
         damage(random, &mut server);
@@ -402,12 +426,19 @@ impl Trio {
         let i = random.index(self.desks.len());
         let mut desk = self.desks[i].core;
         damage(random, &mut desk);
-        let dropped = self.on_desk(random, i, &desk, words);
+        let dropped = self.on_desk(random, tally, i, &desk, words);
         u64::from(core.2.answer == -1_000_001) + u64::from(dropped == -1_000_001)
     }
 
     /// Each call on a record that stands for a desk, by the library, on a record that is lent, and by the C, in place and by value. What drop answers.
-    fn on_desk(&self, random: &mut Random, i: usize, desk: &Desk, words: &str) -> i64 {
+    fn on_desk(
+        &self,
+        random: &mut Random,
+        tally: &mut Tally,
+        i: usize,
+        desk: &Desk,
+        words: &str,
+    ) -> i64 {
         let line = desk_line(self.config, &self.desks[i].model.desk);
         let message = self.message(random, Party::Desk, i as u64 + 1, &line);
         let on_desk = |by: Native| {
@@ -416,6 +447,7 @@ impl Trio {
                 by.begin_write(&mut begun, 9, &message[..message.len().min(70)]),
                 by.hear(&mut heard, &message),
                 by.drop(&mut dropped),
+                by.margin(desk),
             ];
             let asked = written(&mut [7; 1111], |out| by.ask(desk, 0, out, 0));
             (answers, begun, heard, dropped, asked, by.result(desk))
@@ -427,7 +459,9 @@ impl Trio {
             "{words}: a damaged desk by value"
         );
         assert!(of_desk == on_desk(LENT), "{words}: a damaged lent desk");
-        of_desk.0[2]
+        let [_, _, dropped, margin] = of_desk.0;
+        count(tally, "margin, damaged", margin);
+        dropped
     }
 }
 
@@ -501,11 +535,13 @@ fn holds(replica: &Replica, pair: &Pair<Ledger>) -> bool {
         && value.bytes[..value.length.into()] == *register.value
 }
 
-/// Counts 0, `LATE`, or the number of a refusal.
+/// Counts 0, `LATE`, `BELOW`, `ABOVE`, or the number of a refusal.
 fn count(tally: &mut Tally, call: &'static str, answer: i64) {
     let number = match answer {
         0 => 0,
         1 => LATE,
+        -16_000..=-1 => BELOW,
+        2..=16_000 => ABOVE,
         _ => -1_000_000 - answer,
     };
     *tally.entry((call, number)).or_default() += 1;
