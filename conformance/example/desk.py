@@ -71,7 +71,7 @@ class Desk:
     def count_answer(self, server, joined):
         """A server has answered by the desk's own sheet; a quorum of them ends the phase."""
         operation = self.running._replace(answered=self.running.answered | {server})
-        if not self.cluster.is_quorum(joined.sheet, operation.answered):
+        if self.cluster.margin(joined.sheet, operation.answered) <= 0:
             self.pair = joined
             self.running = operation
         elif operation.phase == 1:
@@ -96,6 +96,11 @@ class Desk:
         """The operation that ended: its kind, chosen register and restarts."""
         refuse(9, where=not self.ended)
         return self.ended
+
+    def margin(self):
+        """How far the running operation is from a quorum: the margin of the servers that answered in this round."""
+        refuse(9, where=not self.running)
+        return self.cluster.margin(self.pair.sheet, self.running.answered)
 
     def drop(self):
         """End the running operation without a result."""

@@ -11,7 +11,7 @@ from server import Server
 
 
 class House:
-    """One cluster, with all its servers, and with desks as they are first named. A method for each step."""
+    """One cluster, with all its servers, and with desks as they are first named. A method for each step and question."""
 
     def __init__(self, n, f):
         self.cluster = Cluster(int(n), int(f))  # 1
@@ -54,6 +54,9 @@ class House:
     def result(self, d):
         ended = self.desk(d).result()
         return f"ok {ended.kind} {tag_words(ended.chosen)} {ended.restarts} {to_hex(ended.chosen.value)}"
+
+    def margin(self, d):
+        return f"ok {self.desk(d).margin()}"
 
     def drop(self, d):
         self.desk(d).drop()
@@ -137,7 +140,7 @@ def vector_words(n, f, *hex_words):
 
 STEPS = {
     "serve": House.serve, "transfer": House.transfer, "share": House.share, "begin": House.begin, "ask": House.ask,
-    "hear": House.hear, "result": House.result, "drop": House.drop, "record": House.record,
+    "hear": House.hear, "result": House.result, "margin": House.margin, "drop": House.drop, "record": House.record,
 }
 
 

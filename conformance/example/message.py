@@ -50,8 +50,9 @@ class Cluster:
     def is_light(self, sheet):
         return not all(self.above_floor(weigh(sheet, server)) for server in range(self.n))
 
-    def is_quorum(self, sheet, servers):
-        return 2 * sum(weigh(sheet, server) for server in servers) > self.all_weight
+    def margin(self, sheet, servers):
+        """Twice the weight of some servers, less that of all: above 0 they are a quorum."""
+        return 2 * sum(weigh(sheet, server) for server in servers) - self.all_weight
 
 
 def weigh(sheet, server):

@@ -11,7 +11,7 @@ use model::answers::open;
 use model::conformance::kinds::kind;
 use model::conformance::line::text;
 use model::conformance::reach::{DESK, MESSAGES, SERVER};
-use model::conformance::{files, spent, File};
+use model::conformance::{as_text, files, spent, File};
 use model::machine::calls::Right;
 use model::machine::command::Command;
 use model::machine::parse::parse;
@@ -121,6 +121,17 @@ fn program_and_model_give_the_stored_answers() {
         let program = converse(stored_text(&format!("{name}.in")));
         assert_same(name, &lines, &answers, &program);
     }
+}
+
+/// Without the lines of `margin` the others get the same answers.
+#[test]
+fn margins_change_nothing() {
+    let Stored { lines, answers } = Stored::read("desk");
+    let turns = lines.into_iter().zip(answers);
+    let (lines, answers): (Vec<String>, Vec<String>) = turns
+        .filter(|(line, _)| !line.starts_with("margin "))
+        .unzip();
+    assert_same("desk", &lines, &answers, &converse(as_text(&lines)));
 }
 
 #[test]

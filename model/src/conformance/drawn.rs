@@ -16,8 +16,8 @@ use crate::runs::drawn::play;
 use crate::runs::pace::{pairs, Pace};
 use crate::runs::player::Run;
 use crate::runs::script::Turn;
-use crate::runs::seen::shown;
-use crate::weights::Ledger;
+use crate::runs::seen::{margin, shown};
+use crate::weights::{Ledger, START};
 
 /// Whose lines are taken.
 #[derive(Clone, Copy, Debug, PartialEq, Eq)]
@@ -90,6 +90,7 @@ fn richest(runs: &[Run], parties: Parties, bytes: usize) -> Vec<Line> {
             let worth = worth(&turns);
             if worth > best {
                 best = worth;
+                let turns = with_margins(turns, &run.turns, party);
                 section = turns.into_iter().map(line).collect();
                 if section.last() != Some(&record(party)) {
                     section.push(record(party));
@@ -98,6 +99,25 @@ fn richest(runs: &[Run], parties: Parties, bytes: usize) -> Vec<Line> {
         }
     }
     section
+}
+
+/// The turns of a party with the margins that the run asks it for between them,
+/// where some have answered, each number once. Nothing hangs on these, so they
+/// are put in when the others are chosen.
+fn with_margins<'a>(mut turns: Vec<&'a Turn>, run: &'a [Turn], party: Party) -> Vec<&'a Turn> {
+    let end = turns.last().map_or(0, |last| last.number);
+    let n = run.iter().find_map(accepted_house).unwrap_or(0);
+    let mut told = BTreeSet::from([-START * n as i64]);
+    let mut is_new = |turn: &&Turn| match turn.command {
+        Command::Margin { desk } if party == Party::Desk(desk) => {
+            margin(turn.answer()).is_some_and(|margin| told.insert(margin))
+        }
+        _ => false,
+    };
+    let before = run.iter().take_while(|turn| turn.number < end);
+    turns.extend(before.filter(|turn| is_new(turn)));
+    turns.sort_by_key(|turn| turn.number);
+    turns
 }
 
 /// How many kinds of lines and answers there are, and twice the operations that
@@ -169,7 +189,7 @@ fn crashes(turn: &Turn, party: Party) -> bool {
 }
 
 /// Whether a line is the party's, or names nobody. Lines that a store does not
-/// answer by itself are nobody's, and margins are left out.
+/// answer by itself are nobody's, and margins are put in later.
 fn is_about(turn: &Turn, party: Party, n: u64) -> bool {
     if matches!(turn.answer(), "" | "what" | "bounds" | "crashed") {
         return false;

@@ -65,6 +65,10 @@ pub const DESK: &[(&str, u64)] = &[
     ("drop: ok", 10),
     ("drop: no 1", 8),
     ("drop: no 9", 8),
+    ("margin: below 0", 200),
+    ("margin: 0", 20),
+    ("margin: no 1", 8),
+    ("margin: no 9", 20),
     ("record: shown", 300),
     ("record: no 1", 8),
 ];

@@ -9,7 +9,7 @@ use crate::runs::player::ROOMY;
 use crate::write::write;
 
 /// Each call of a desk of this number.
-fn calls(desk: u64) -> [Line; 7] {
+fn calls(desk: u64) -> [Line; 8] {
     let begin = |task| Command::Begin {
         desk,
         task,
@@ -28,6 +28,7 @@ fn calls(desk: u64) -> [Line; 7] {
             message: write(&reply(0, 7, 1)),
         },
         Command::Result { desk },
+        Command::Margin { desk },
         Command::Drop { desk },
         Command::RecordDesk { desk },
     ]

@@ -13,19 +13,24 @@ pub fn begin() -> Vec<Line> {
     let mut one = One::new(5, 1, 7);
     one.record();
     one.result();
+    one.margin();
     one.abandon();
     one.write(&LONG, 0);
     one.write(&[0; 256], 0);
     one.write(&[0; 320], 0);
+    one.margin();
     one.record();
     one.write(&LONG[..64], u32::MAX);
+    one.margin();
     one.record();
     one.write(&LONG, 0);
     one.write(&LONG[..64], 0);
     one.read(0);
     one.result();
+    one.margin();
     one.record();
     one.abandon();
+    one.margin();
     one.record();
     one.abandon();
     one.result();
@@ -91,6 +96,7 @@ pub fn longest() -> Vec<Line> {
         note: Some(u32::MAX),
         ..one.reply(3, 1)
     });
+    one.margin();
     one.record();
     for (at, len) in [(0, 1_110), (938, 2_048), (937, 2_048)] {
         one.ask_in(15, Room { at, len });

@@ -33,6 +33,7 @@ pub fn kept() -> Vec<Line> {
     refused_replies(&mut one, 2, (9, 9, &[0x99]));
     for server in [1, 2, 3] {
         one.hear(&brings(&one, (server, 2), HELD, (1, 3, FOUND)));
+        one.margin();
     }
     one.record();
     refused_replies(&mut one, 3, (9, 9, &[0x99]));
@@ -60,6 +61,7 @@ fn refused_replies(one: &mut One, round: u32, higher: (u32, u16, &[u8])) {
         one.hear(&brings(one, (1, round), rows, higher));
         one.record();
     }
+    one.margin();
     one.ask_in(
         5,
         Room {
@@ -74,6 +76,7 @@ fn refused_begins(one: &mut One) {
     one.result();
     one.write(&[0; 65], 1);
     one.result();
+    one.margin();
     one.record();
 }
 
@@ -100,6 +103,7 @@ pub fn many() -> Vec<Line> {
             ..one.reply(0, round)
         });
     }
+    one.margin();
     one.record();
     for round in [301, 302] {
         one.hear(&Message {

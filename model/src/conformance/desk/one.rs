@@ -75,6 +75,11 @@ impl One {
         self.lines.push(Command::Result { desk });
     }
 
+    pub fn margin(&mut self) {
+        let desk = self.number();
+        self.lines.push(Command::Margin { desk });
+    }
+
     pub fn abandon(&mut self) {
         let desk = self.number();
         self.lines.push(Command::Drop { desk });

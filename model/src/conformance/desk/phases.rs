@@ -1,4 +1,5 @@
-//! Where a phase ends: at more than half of the weight, not of the servers.
+//! Where a phase ends: at more than half of the weight, not of the servers. And
+//! how much is missing until then.
 
 use super::one::One;
 use crate::conformance::line::{register, sheet, Line, Row};
@@ -26,15 +27,20 @@ pub fn heads() -> Vec<Line> {
     let mut one = One::new(5, 1, 7);
     one.write(&[0x77], 0);
     hear(&mut one, 3, 1, ledger);
+    one.margin();
     for server in [0, 1, 2] {
         hear(&mut one, server, 2, ledger);
+        one.margin();
         one.record();
     }
     hear(&mut one, 4, 2, ledger);
+    one.margin();
     one.record();
     hear(&mut one, 4, 3, ledger);
+    one.margin();
     one.record();
     hear(&mut one, 3, 3, ledger);
+    one.margin();
     one.result();
     one.record();
     one.lines
@@ -51,11 +57,13 @@ pub fn levels() -> Vec<Line> {
             let enough = n / 2 + 1;
             for server in n - enough..n {
                 one.result();
+                one.margin();
                 one.hear(&one.reply(server as u8, round));
             }
             one.record();
         }
         one.result();
+        one.margin();
         lines.extend(one.lines);
     }
     lines
@@ -72,6 +80,7 @@ pub fn halves() -> Vec<Line> {
         for server in 0..=last {
             one.hear(&one.reply(server, 1));
             if server + 1 >= last {
+                one.margin();
                 one.record();
             }
         }
@@ -85,11 +94,13 @@ pub fn halves() -> Vec<Line> {
             .filter(|server| *server != 1)
             .take(n as usize / 2);
         without.for_each(|server| hear(&mut one, server, 2, ledger));
+        one.margin();
         one.record();
         one.abandon();
         one.read(0);
         let with = (1..n as u8).take(n as usize / 2);
         with.for_each(|server| hear(&mut one, server, 3, ledger));
+        one.margin();
         one.record();
         lines.extend(one.lines);
     }

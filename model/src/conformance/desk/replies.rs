@@ -13,6 +13,7 @@ pub fn strays() -> Vec<Line> {
     one.hear(&request(0, 7, 1));
     one.hear(&reply(0, 8, 1));
     one.hear_bytes(vec![0x00, 0x0F, 0x02]);
+    one.margin();
     one.record();
     one.read(0);
     // 7: a request, a share, a reply to another desk.
@@ -20,6 +21,7 @@ pub fn strays() -> Vec<Line> {
     one.hear(&share(0));
     one.hear(&reply(0, 8, 1));
     one.hear(&reply(0, 7 + 256, 1));
+    one.margin();
     // 7 before late; 2, 3, 4 and 5 before 7.
     one.hear(&reply(0, 8, 2));
     one.hear_bytes(vec![0x00, 0x0F, 0x02, 0x00, 0x00, 0x08]);
@@ -33,12 +35,14 @@ pub fn strays() -> Vec<Line> {
     one.hear(&one.reply(0, 2));
     one.hear(&one.reply(0, 65_537));
     one.hear(&one.reply(0, u32::MAX));
+    one.margin();
     one.record();
     // The note is not looked at.
     one.hear(&Message {
         note: Some(99),
         ..one.reply(0, 1)
     });
+    one.margin();
     one.record();
     one.lines
 }
@@ -63,6 +67,7 @@ pub fn operations() -> Vec<Line> {
     one.result();
     one.abandon();
     one.result();
+    one.margin();
     one.record();
     one.lines
 }
@@ -72,31 +77,42 @@ fn a_write(one: &mut One) {
     one.ask(0);
     // The same server twice is one of three.
     one.hear(&one.reply(0, 1));
+    one.margin();
     one.hear(&one.reply(0, 1));
+    one.margin();
     one.record();
     one.hear(&one.reply(2, 1));
+    one.margin();
     one.record();
     // Phase 2: what is of round 1 is late, and the request has the new register.
     one.hear(&one.reply(1, 1));
+    one.margin();
     one.result();
     one.ask(1);
     one.hear(&taken(1, 2));
+    one.margin();
     one.hear(&taken(1, 2));
+    one.margin();
     one.ask(1);
     // A reply with an older register counts too.
     one.hear(&one.reply(0, 2));
+    one.margin();
     one.record();
     // The result stays, and what comes now is late.
     one.result();
+    one.margin();
     one.result();
     one.hear(&taken(2, 2));
+    one.margin();
     one.ask(2);
     one.abandon();
+    one.margin();
     one.record();
 }
 
 fn a_read(one: &mut One) {
     one.read(0);
+    one.margin();
     one.record();
     one.result();
     one.ask(2);
@@ -113,15 +129,22 @@ pub fn drops() -> Vec<Line> {
     let mut one = One::new(2, 0, 7);
     one.write(&[1], 0);
     one.hear(&one.reply(0, 1));
+    one.margin();
     one.abandon();
+    one.margin();
     one.hear(&one.reply(1, 1));
+    one.margin();
     one.record();
     one.write(&[2], 0);
+    // Who answered the one that was dropped is forgotten.
+    one.margin();
     one.hear(&one.reply(0, 1));
     one.hear(&one.reply(0, 2));
     one.hear(&one.reply(1, 2));
+    one.margin();
     one.record();
     one.abandon();
+    one.margin();
     one.hear(&one.reply(0, 3));
     one.hear(&one.reply(1, 3));
     // The register that it chose stays.

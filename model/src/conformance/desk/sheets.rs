@@ -22,23 +22,31 @@ pub fn restarts() -> Vec<Line> {
     let mut one = One::new(3, 1, 7);
     one.write(&[0xB7], 0);
     hear(&mut one, 1, 1, &[]);
+    one.margin();
     hear(&mut one, 0, 1, once);
     // Nobody has answered in the new round, and what is of the old one is late.
+    one.margin();
     one.record();
     hear(&mut one, 2, 1, once);
+    one.margin();
     one.ask(2);
     hear(&mut one, 0, 2, once);
+    one.margin();
     hear(&mut one, 1, 2, once);
     one.record();
     // Phase 2: it stays in it, with what it chose.
     hear(&mut one, 2, 3, once);
+    one.margin();
     hear(&mut one, 0, 3, twice);
+    one.margin();
     one.record();
     hear(&mut one, 1, 3, twice);
     hear(&mut one, 2, 4, also);
+    one.margin();
     one.record();
     one.ask(0);
     hear(&mut one, 2, 5, also);
+    one.margin();
     hear(&mut one, 1, 5, also);
     one.result();
     one.record();
@@ -46,6 +54,7 @@ pub fn restarts() -> Vec<Line> {
     one.read(3);
     one.ask(1);
     hear(&mut one, 2, 6, also);
+    one.margin();
     hear(&mut one, 1, 6, also);
     hear(&mut one, 2, 7, also);
     hear(&mut one, 1, 7, also);
@@ -64,6 +73,7 @@ fn restart_with_register() -> Vec<Line> {
     };
     one.read(0);
     one.hear(&new(&one, 1, 1, 4, 1));
+    one.margin();
     one.record();
     one.hear(&new(&one, 1, 2, 4, 1));
     one.record();
@@ -99,9 +109,12 @@ pub fn clashes() -> Vec<Line> {
     // Later: a smaller cell, one that is gone.
     hear(&mut one, 1, 2, &[(0, 3, &[(1, 49), (2, 9)]), held[1]]);
     hear(&mut one, 1, 2, &[held[0], (3, 2, &[(0, 20)])]);
+    one.margin();
     one.record();
     hear(&mut one, 1, 2, held);
+    one.margin();
     hear(&mut one, 2, 2, held);
+    one.margin();
     one.record();
     one.lines.extend(values());
     one.lines
@@ -116,8 +129,10 @@ fn values() -> Vec<Line> {
     };
     one.read(0);
     one.hear(&brings(&one, 0, &[0xA0]));
+    one.margin();
     one.record();
     one.hear(&brings(&one, 1, &[0xA0, 0x00]));
+    one.margin();
     one.hear(&brings(&one, 1, &[]));
     one.hear(&brings(&one, 1, &[0xA1]));
     // With a newer sheet too: the restart is not made.
@@ -125,8 +140,10 @@ fn values() -> Vec<Line> {
         ledger: sheet(&[(1, 1, &[(0, 1)])]),
         ..brings(&one, 1, &[0xA1])
     });
+    one.margin();
     one.record();
     one.hear(&brings(&one, 1, &[0xA0]));
+    one.margin();
     one.record();
     one.lines
 }

@@ -16,6 +16,7 @@ pub fn alone() -> Vec<Line> {
     let mut one = One::new(1, 0, 7);
     one.write(&[0x01], 0);
     one.hear(&brings(0, 1, u32::MAX));
+    one.margin();
     one.record();
     // Nothing was taken; the stamp before the last leaves room for one write.
     one.hear(&brings(0, 1, u32::MAX - 1));
@@ -39,10 +40,13 @@ pub fn of_three() -> Vec<Line> {
     let mut one = One::new(3, 1, 7);
     one.write(&[0x01], 0);
     one.hear(&brings(1, 1, u32::MAX));
+    one.margin();
     one.record();
     one.hear(&one.reply(0, 1));
+    one.margin();
     one.hear(&brings(2, 1, u32::MAX));
     one.hear(&brings(1, 1, u32::MAX));
+    one.margin();
     one.record();
     one.abandon();
     one.read(0);
