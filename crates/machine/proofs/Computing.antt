@@ -5,10 +5,11 @@ use Rattle.quorums.specs.Accounts.{weight, total, weightIn, margin, quorum, abo
 use Rattle.config.specs.Cluster.{validOf, startOf, totalOf, aboveOf, stampBytes, mostStamp}
 use Rattle.format.specs.Bytes.{bytes, number, series, stands, marks, bit}
 use Rattle.format.specs.Table.{registerMark, register, cellMap, cells, rowMark, row, rowMap, rows, sheet, fieldMap, fieldMapOf, head, note, encodeFields}
-use Rattle.machine.specs.Sets.{same, has, includes, missing, union, tally, count, cell, given, received, weightOf, marginOf, quorumOf}
+use Rattle.machine.specs.Sets.{same, has, includes, missing, union, tally, count, cell, given, received, weightOf, quorumOf}
 use Rattle.machine.specs.Parties.{below, higher, join, bytesOf, answered}
 use Rattle.machine.specs.Runs.{onServer, onDesk, onCrash, take, at, answerAt, inTurn}
-use Rattle.machine.specs.Calls.{send, transferBy, shareBy, serveBy, answerRequest, beginBy, askBy, hearBy, restart, choose, mark, resultBy, dropBy, marginBy}
+use Rattle.machine.specs.Calls.{send, transferBy, shareBy, serveBy, answerRequest, beginBy, askBy, hearBy, restart, choose, mark, resultBy, dropBy}
+use Rattle.machine.specs.Margins.{marginOf, marginBy}
 use Rattle.machine.specs.Seen.{hears, heard}
 use Rattle.machine.specs.Views.{restartsMade, gain}
 

@@ -11,10 +11,10 @@ use lib.Signed.{ltZ}
 use Rattle.quorums.specs.Accounts.{margin, quorum}
 use Rattle.quorums.proofs.Margins.{nobody-quorum}
 use Rattle.config.specs.declared.cluster.Config.{Config}
-use Rattle.machine.specs.Sets.{Transfers, accounts, marginOf, quorumOf}
+use Rattle.machine.specs.Sets.{Transfers, accounts, quorumOf}
 use Rattle.machine.specs.Parties.{Operation, Activity, idle, running, ended, if-running, Desk, answered}
 use Rattle.machine.specs.Runs.{at, deskAt}
-use Rattle.machine.specs.Calls.{marginBy}
+use Rattle.machine.specs.Margins.{marginOf, marginBy}
 use Rattle.machine.specs.Steps.{machine, Step, runOf}
 use Rattle.machine.proofs.Desks.{desk-moved}
 use Rattle.machine.proofs.Performed.{running-ended}

@@ -3,13 +3,12 @@
 use Prim.Native.Nat.{ℕ, suc, _+_}
 use mathlib.Core.Bool.{Bool, false, cond}
 use mathlib.Core.List.{[], _∷_}
-use mathlib.Core.Option.{Option, none, some}
 use lib.Dec.{eqb, leb, ltb}
-use lib.IntN.{ℤ, pos, _-ℤ_}
+use lib.IntN.{pos, _-ℤ_}
 use lib.ListN.{length}
 use Rattle.config.specs.Cluster.{aboveOf, mostStamp}
 use Rattle.config.specs.declared.cluster.Config.{Config}
-use Rattle.machine.specs.Sets.{includes, count, weightOf, marginOf, quorumOf}
+use Rattle.machine.specs.Sets.{includes, count, weightOf, quorumOf}
 use Rattle.machine.specs.Parties.{Register, Replica, join, request, reply, share, Message, by-kind, bytesOf, Task, by-task, writes, valueOf, first, second, by-phase, Operation, idle, running, ended, if-running, if-ended, Desk, answered}
 use Rattle.machine.specs.Runs.{Answer, late, refused, done, wrote, told, Outcome}
 
@@ -194,7 +193,3 @@ dropped x = record { replica = x .replica; round = x .round; activity = idle }
 -- Drop: 9 if no operation runs; otherwise it is gone.
 unfoldable pub dropBy : Desk → Outcome Message Desk
 dropBy x = if-running (x .activity) (λ o. accept done (dropped x)) (refuse 9 x)
-
--- What desk staff see, which is no step (paper 02, N1): while an operation runs, the margin of the servers heard in this round on the desk's own set.
-unfoldable pub marginBy : Config → Desk → Option ℤ
-marginBy c x = if-running (x .activity) (λ o. some (marginOf c (x .replica .set) (answered (o .heard)))) none

@@ -1,11 +1,11 @@
--- Sets of transfers (paper 01, "Sheets" and "The runs of demand 3"), and what follows from a set alone: counts, cells, weights, margins and quorums.
+-- Sets of transfers (paper 01, "Sheets" and "The runs of demand 3"), and what follows from a set alone: counts, cells, weights and quorums.
 -- A set is a list in which order means nothing.
 use Prim.Native.Nat.{ℕ, _+_}
 use mathlib.Core.Bool.{Bool, true, false, cond}
 use mathlib.Core.List.{List, [], _∷_, _++_}
 use lib.Dec.{eqb}
 use lib.IntN.{ℤ}
-use Rattle.quorums.specs.Accounts.{Accounts, weight, margin, quorum}
+use Rattle.quorums.specs.Accounts.{Accounts, weight, quorum}
 use Rattle.config.specs.Cluster.{startOf}
 use Rattle.config.specs.declared.cluster.Config.{Config}
 
@@ -74,10 +74,6 @@ accounts c a = accountsFrom (startOf c) a
 
 unfoldable pub weightOf : Config → Transfers → ℕ → ℤ
 weightOf c a i = weight (accounts c a) i
-
--- twice the weight of the servers in q, less W; and whether that is above zero
-unfoldable pub marginOf : Config → Transfers → (ℕ → Bool) → ℤ
-marginOf c a q = margin (c .n) (accounts c a) q
 
 unfoldable pub quorumOf : Config → Transfers → (ℕ → Bool) → Bool
 quorumOf c a q = quorum (c .n) (accounts c a) q

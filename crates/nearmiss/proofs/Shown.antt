@@ -10,7 +10,7 @@ use Rattle.config.specs.Cluster.{level}
 use Rattle.machine.specs.Sets.{weightOf, quorumOf}
 use Rattle.machine.specs.Parties.{start, read, write, first, second, running, Result}
 use Rattle.machine.specs.Runs.{done, told, answerAt, deskAt}
-use Rattle.machine.specs.Calls.{marginBy}
+use Rattle.machine.specs.Margins.{marginBy}
 use Rattle.machine.specs.Steps.{begin, ask, serve, result, drop, transfer, share, machine, PlainRun}
 use Rattle.machine.specs.Seen.{viewOf}
 use Rattle.machine.specs.Views.{Ends, Chose, restartsMade, gain}

@@ -33,7 +33,8 @@ use Rattle.ledger.proofs.Totals.{told-bounded}
 use Rattle.ledger.proofs.Added.{may-hold-placed}
 use Rattle.ledger.proofs.Unions.{same-ledger, later-first, later-second}
 use Rattle.ledger.proofs.Compared.{lacks-nothing}
-use Rattle.machine.specs.Sets.{Transfer, Transfers, includes, union, tally, count, cell, given, received, accounts, weightOf as plainWeight, marginOf as plainMargin, quorumOf as plainQuorum}
+use Rattle.machine.specs.Sets.{Transfer, Transfers, includes, union, tally, count, cell, given, received, accounts, weightOf as plainWeight, quorumOf as plainQuorum}
+use Rattle.machine.specs.Margins.{marginOf as plainMargin}
 use Rattle.machine.specs.Sheets.{Sound}
 use Rattle.machine.proofs.SetRanges.{SetRange}
 use Rattle.machine.proofs.Rows.{Agree}

@@ -19,10 +19,10 @@ use Rattle.desk.specs.declared.record.Desk.{Desk}
 use Rattle.desk.specs.Operations.{running as runningMode}
 use Rattle.desk.specs.Margins.{marginOf}
 use Rattle.desk.proofs.Margins.{told-within}
-use Rattle.machine.specs.Sets.{Transfers, marginOf as plainMargin}
+use Rattle.machine.specs.Sets.{Transfers}
 use Rattle.machine.specs.Parties.{Operation, Activity, idle, running, ended, if-running, Desk as PlainDesk, answered}
 use Rattle.machine.specs.Runs.{at, mostDesk, deskAt}
-use Rattle.machine.specs.Calls.{marginBy}
+use Rattle.machine.specs.Margins.{marginOf as plainMargin, marginBy}
 use Rattle.machine.specs.Steps.{PlainRun}
 use Rattle.machine.proofs.Moves.{Seated}
 use Rattle.machine.proofs.Waiting.{shown-below}

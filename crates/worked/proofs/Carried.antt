@@ -11,7 +11,7 @@ use Rattle.desk.specs.Margins.{marginOf}
 use Rattle.machine.specs.Parties.{bytesOf}
 use Rattle.machine.specs.Runs.{at, answersOf, mostDesk, deskAt}
 use Rattle.machine.specs.Steps.{Step as PlainStep, begin as plain-begin, ask as plain-ask, serve as plain-serve, hear as plain-hear, result as plain-result, drop as plain-drop, transfer as plain-transfer, share as plain-share, crash as plain-crash, machine, PlainRun, runOf as plainRunOf}
-use Rattle.machine.specs.Calls.{marginBy}
+use Rattle.machine.specs.Margins.{marginBy}
 use Rattle.machine.specs.Views.{View}
 use Rattle.machine.specs.Seen.{viewOf as plainView}
 use Rattle.machine.specs.Typed.{Typed as TypedPlain}
