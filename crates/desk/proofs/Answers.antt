@@ -136,7 +136,7 @@ hear-whole : (x : Desk) (msg : List ℕ) →
     wholeOf x (partsOf h) (h .desk .replica .ledger .counts) (h .desk .replica .ledger .cells) ≡ h
 hear-whole x msg =
     hear-cases (λ (h : Heard). wholeOf x (partsOf h) (h .desk .replica .ledger .counts) (h .desk .replica .ledger .cells) ≡ h) x (λ k. refl) msg refl
-    (λ f a s. record { restarts = λ l. refl; chooses = λ l n. refl; finishes = refl; waits = refl })
+    (λ f a s. record { restarts = λ l. refl; chooses = λ l n. refl; finishes = refl; waits = λ q. refl })
 
 pub answers-whole : (x : Desk) (msg : List ℕ) (r : HeardIn) (counts cells : List ℕ) → Answers (hearOf x msg) r counts cells
     → wholeOf x r counts cells ≡ hearOf x msg

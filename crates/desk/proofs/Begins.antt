@@ -30,7 +30,7 @@ use Rattle.desk.proofs.Desks.{fits-told, told-fits, fits-valid}
 -- ---- what the calls come to
 
 -- a begin is refused, or starts an operation with a value that fits, before the last round
-begin-cases : (P : DeskAnswer → Type 0) (x : Desk) (kind : ℕ) (v : List ℕ) (note : ℕ)
+pub begin-cases : (P : DeskAnswer → Type 0) (x : Desk) (kind : ℕ) (v : List ℕ) (note : ℕ)
     → ((k : Refusal) → P (refused k x))
     → (valueFits (valueOf v) ≡ true → x .round < mostRound → P (accepted (begun x kind (valueOf v) note)))
     → P (beginOf x kind v note)
@@ -49,7 +49,7 @@ begin-cases P x kind v note refuses accepts =
     by-tests false l m r a b = refuses (refusal 1)
 
 -- a drop is refused, or an operation runs and is gone
-drop-cases : (P : DeskAnswer → Type 0) (x : Desk)
+pub drop-cases : (P : DeskAnswer → Type 0) (x : Desk)
     → ((k : Refusal) → P (refused k x)) → (x .operation .mode ≡ running → P (accepted (dropped x)))
     → P (dropOf x)
 unfolding dropOf

@@ -115,7 +115,7 @@ hear-fits x msg b e =
       restarts = λ r. restarted-fits x p e h (s .runs);
       chooses = λ r n. chose-fits x p e h (s .runs) n;
       finishes = finished-fits x p e h (s .runs);
-      waits = waiting-fits x p e h (s .runs) (y .envelope .server) (ltb-true _ _ (lawful-told c (y .envelope) (g .envelope-lawful) .server-good));
+      waits = λ q. waiting-fits x p e h (s .runs) (y .envelope .server) (ltb-true _ _ (lawful-told c (y .envelope) (g .envelope-lawful) .server-good));
     })
 
 -- ---- a record that a call can have
@@ -208,7 +208,7 @@ hear-typed x msg b t e =
       restarts = λ r. restarted-typed x p t e h r;
       chooses = λ r n. chose-typed x p t e h r n;
       finishes = finished-typed x p t e h;
-      waits = waiting-typed x p t e h (y .envelope .server) (ltb-true _ _ (lawful-told c (y .envelope) (g .envelope-lawful) .server-good));
+      waits = λ q. waiting-typed x p t e h (y .envelope .server) (ltb-true _ _ (lawful-told c (y .envelope) (g .envelope-lawful) .server-good));
     })
 
 -- ---- what is not accepted changes nothing
@@ -220,7 +220,7 @@ hear-unchanged x msg =
       restarts = λ r n. absurd (n refl);
       chooses = λ r d n. absurd (n refl);
       finishes = λ n. absurd (n refl);
-      waits = λ n. absurd (n refl);
+      waits = λ q n. absurd (n refl);
     })
 
 pub hear-refused : (x : Desk) (msg : List ℕ) (k : Refusal) → hearOf x msg .hearing ≡ Hearing.Refused k → hearOf x msg .desk ≡ x
@@ -251,5 +251,5 @@ hear-grows x msg =
       restarts = λ l d. (left, right);
       chooses = λ l n d. (chose-grows x p (x .replica) left, chose-grows x p r right);
       finishes = λ d. (left, right);
-      waits = λ d. (left, right);
+      waits = λ q d. (left, right);
     })

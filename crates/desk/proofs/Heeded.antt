@@ -58,7 +58,7 @@ pub record Does (P : Heard → Type 0) (x : Desk) (p : Replica) (i : ℕ) : Type
   pub restarts : x .round < mostRound → P (accepted (restarted x p))
   pub chooses : x .round < mostRound → noStamp x (p .register) ≡ false → P (accepted (chose x p))
   pub finishes : P (accepted (finished x p))
-  pub waits : P (accepted (waiting x p i))
+  pub waits : quorumOf (x .config) (p .ledger) (marked (x .operation .answered) i) ≡ false → P (accepted (waiting x p i))
 
 -- what holds of a refusal, of "late" and of each thing that a reply may do holds of the call
 module _ (P : Heard → Type 0) (x : Desk) (refuses : (k : Refusal) → P (refused k x)) where
@@ -82,12 +82,13 @@ module _ (P : Heard → Type 0) (x : Desk) (refuses : (k : Refusal) → P (refus
 
   mark-cases : (p : Replica) (i : ℕ) → Does P x p i → P (markOf x p i)
   unfolding markOf
-  mark-cases p i d = by-tests (quorumOf (x .config) (p .ledger) (marked (x .operation .answered) i)) (eqb (x .operation .phase) 1)
+  mark-cases p i d = by-tests (quorumOf (x .config) (p .ledger) (marked (x .operation .answered) i)) (eqb (x .operation .phase) 1) refl
     where
-      by-tests : (q f : Bool) → P (cond q (cond f (chooseOf x p) (accepted (finished x p))) (accepted (waiting x p i)))
-      by-tests true true = choose-cases p i d
-      by-tests true false = d .finishes
-      by-tests false f = d .waits
+      by-tests : (q f : Bool) → quorumOf (x .config) (p .ledger) (marked (x .operation .answered) i) ≡ q
+          → P (cond q (cond f (chooseOf x p) (accepted (finished x p))) (accepted (waiting x p i)))
+      by-tests true true e = choose-cases p i d
+      by-tests true false e = d .finishes
+      by-tests false f e = d .waits e
 
   fields-cases : (e : Envelope) (r : Replica) → P (late x) → (Heeded x e r → Does P x (join (x .replica) r) (e .server)) → P (hearFields x e r)
   unfolding hearFields
