@@ -40,14 +40,14 @@ abbrev pub shownAs : Option ℤ → Signed
 shownAs none = Signed.Refused (refusal 9)
 shownAs (some y) = Signed.Value y
 
--- While an operation runs, −y is told, where y is at most W; otherwise 9.
-pub record Missing (c : Config) (x : Desk) : Type 0 where
-  pub weight : ℕ
-  pub told : marginOf x ≡ Signed.Value (difference 0 weight)
-  pub most : weight ≤ totalOf c
+-- While an operation runs, a number is told that is below zero by at most W; otherwise 9.
+pub record Below (c : Config) (x : Desk) : Type 0 where
+  pub by : ℕ
+  pub told : marginOf x ≡ Signed.Value (difference 0 by)
+  pub most : by ≤ totalOf c
 
 pub record Shows (c : Config) (x : Desk) : Type 0 where
-  pub runs : x .operation .mode ≡ runningMode → Missing c x
+  pub runs : x .operation .mode ≡ runningMode → Below c x
   pub rests : (x .operation .mode ≡ runningMode → ⊥) → marginOf x ≡ Signed.Refused (refusal 9)
 
 module _ (c : Config) (valid : validOf c ≡ true) (steps : List Step) (typed : Typed steps) where
@@ -86,19 +86,19 @@ module _ (c : Config) (valid : validOf c ≡ true) (steps : List Step) (typed : 
             (margin-for c valid set (desk-held c valid steps typed k d .range .set) (mapFor (o .heard)) (answered (o .heard)) (λ i l. map-names (o .heard) i))
         by-activity (ended y) = refl
 
-    missing : (o : Operation) → x .activity ≡ running o → Missing c (deskFor c d x)
+    below : (o : Operation) → x .activity ≡ running o → Below c (deskFor c d x)
     unfolding marginBy
-    missing o e =
+    below o e =
         let y = plainMargin c set (answered (o .heard)) in
         let by-machine : marginBy c x ≡ some y = ap (λ a. if-running a (λ o. some (plainMargin c set (answered (o .heard)))) none) e in
         let told : marginOf (deskFor c d x) ≡ Signed.Value y = same ∙ ap shownAs by-machine in
         let z = lacks (totalOf c) y (told-within (deskFor c d x) y told .least) (shown-below c (map plain steps) d k y by-machine) in
-        record { weight = z .by; told = told ∙ ap Signed.Value (z .is); most = z .most }
+        record { by = z .by; told = told ∙ ap Signed.Value (z .is); most = z .most }
 
     shows : (a : Activity) → x .activity ≡ a → Shows c (deskFor c d x)
     shows idle e =
         record { runs = λ h. let z : _≡_ {A = ℕ} 0 1 = ap (λ b. operationFor b .mode) (sym e) ∙ h in absurd (omega arith); rests = λ h. told-of ∙ ap tested e }
-    shows (running o) e = record { runs = λ h. missing o e; rests = λ h. absurd (h (ap (λ b. operationFor b .mode) e)) }
+    shows (running o) e = record { runs = λ h. below o e; rests = λ h. absurd (h (ap (λ b. operationFor b .mode) e)) }
     shows (ended y) e =
         record { runs = λ h. let z : _≡_ {A = ℕ} 2 1 = ap (λ b. operationFor b .mode) (sym e) ∙ h in absurd (omega arith); rests = λ h. told-of ∙ ap tested e }
 

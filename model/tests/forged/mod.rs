@@ -1,7 +1,8 @@
 //! Runs in which messages are damaged or forged on their way, on a store beside
 //! the model over counts and cells. Forged messages are counted, and the margins
-//! asked for in between, and what they must reach is asserted. TOVRIDSA_SEED, TOVRIDSA_STEPS and TOVRIDSA_FROM as for the other
-//! runs; here a quarter of the steps is played.
+//! asked for in between, and what they must reach is asserted. TOVRIDSA_SEED,
+//! TOVRIDSA_STEPS and TOVRIDSA_FROM as for the other runs; here a quarter of the
+//! steps is played.
 
 use std::collections::BTreeMap;
 
