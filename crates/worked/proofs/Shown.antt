@@ -47,6 +47,7 @@ module _ (lent : ℕ → Bool) where
   pub record Watched : Type 0 where
     pub before : marginOf (deskAt (runFor lent across) 1 0) ≡ Signed.Refused (refusal 9)
     pub nobody : marginOf (deskAt (runFor lent across) 1 1) ≡ Signed.Value (negsuc 3999)
+    pub one : marginOf (deskAt (runFor lent across) 1 4) ≡ Signed.Value (negsuc 1999)
     pub half : marginOf (deskAt (runFor lent across) 1 7) ≡ Signed.Value (pos 0)
     pub next-phase : marginOf (deskAt (runFor lent across) 1 10) ≡ Signed.Value (negsuc 3999)
     pub heavier-alone : marginOf (deskAt (runFor lent across) 2 29) ≡ Signed.Value (negsuc 1333)
@@ -58,6 +59,7 @@ module _ (lent : ℕ → Bool) where
       record {
         before = same 0 1 (omega arith) (omega arith) ∙ ap shownAs (watch-across .before);
         nobody = same 1 1 (omega arith) (omega arith) ∙ ap shownAs (watch-across .nobody);
+        one = same 4 1 (omega arith) (omega arith) ∙ ap shownAs (watch-across .one);
         half = same 7 1 (omega arith) (omega arith) ∙ ap shownAs (watch-across .half);
         next-phase = same 10 1 (omega arith) (omega arith) ∙ ap shownAs (watch-across .next-phase);
         heavier-alone = same 29 2 (omega arith) (omega arith) ∙ ap shownAs (watch-across .heavier-alone);
