@@ -2,7 +2,7 @@
 use Prim.Native.Nat.{ℕ, suc, _+_, _-_, _*_, _/_, _≤_, _<_}
 use native.Mathlib.Nat.{add-mul, div-lt-iff-lt-mul, div-le-self, lt-of-mul-lt-mul-right, lt-of-le-of-lt, le-add-right}
 use native.Mathlib.Omega.{arith}
-use mathlib.Core.Path.{_≡_, refl, sym, ap, _∙_}
+use mathlib.Core.Path.{_≡_, sym, ap, _∙_}
 use mathlib.Core.Bool.{Bool, true, false, cond, not}
 use borrow.Author.Tests.{le-leb, leb-true, lt-ltb, ltb-true, lt-leb}
 use lib.Dec.{leb, ltb}
