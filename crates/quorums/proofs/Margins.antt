@@ -1,11 +1,10 @@
 -- What a margin tells (paper 02, N1). Where no weight is negative it lies from −W to W. One that is not above zero tells how much weight is still missing:
 -- half of what it is below zero, rounded down, and one more.
 use Prim.Native.Nat.{ℕ, zero, suc, _+_, _-_, _*_, _/_, _≤_, _<_}
-use native.Mathlib.Nat.{le-refl}
 use native.Mathlib.Omega.{arith}
 use mathlib.Core.Path.{_≡_, refl, sym, ap, ap₂, _∙_}
 use mathlib.Core.Bool.{Bool, true, false, cond, false≢true}
-use borrow.Author.Tests.{le-ltb, eq-eqb, ne-eqb, eqb-true, eqb-false, ltb-false}
+use borrow.Author.Tests.{le-ltb, ne-eqb, ltb-false}
 use lib.Dec.{eqb, ltb, leb→le}
 use lib.IntN.{ℤ, pos, negsuc}
 use lib.Signed.{ltZ, _≤ℤ_}
@@ -13,22 +12,11 @@ use Rattle.quorums.specs.Sum.{sum, sumIn}
 use Rattle.quorums.specs.Difference.{difference}
 use Rattle.quorums.specs.Accounts.{Accounts, held, weight, total, weightIn, margin, quorum}
 use Rattle.quorums.proofs.Tests.{ltb-same}
-use Rattle.quorums.proofs.Sums.{sum-add, sum-zero, sum-same, sum-one, sumIn-le, sumIn-set}
+use Rattle.quorums.proofs.Sums.{sum-add, sumIn-le, sumIn-set, sumIn-nobody, sumIn-one, either, sumIn-either, sumIn-rest}
 use Rattle.quorums.proofs.Differences.{difference-up, difference-down, difference-le, difference-back, pos-difference, lt-difference}
 use Rattle.quorums.proofs.Weights.{weightIn-is, margin-is, quorum-is}
 
 -- ---- from −W to W
-
--- what a set's differences come to is at most what all do, where none is negative
-part-rest : (n : ℕ) (q : ℕ → Bool) (f g : ℕ → ℕ) → ((i : ℕ) → i < n → f i ≤ g i) → sumIn n q g + sum n f ≤ sumIn n q f + sum n g
-unfolding sumIn sum
-part-rest zero q f g h = le-refl 0
-part-rest (suc n) q f g h = by-last (q n) (part-rest n q f g (λ i l. h i (omega arith))) (h n (le-refl (suc n)))
-  where
-    by-last : (b : Bool) → sumIn n q g + sum n f ≤ sumIn n q f + sum n g → f n ≤ g n
-        → sumIn n q g + cond b (g n) 0 + (sum n f + f n) ≤ sumIn n q f + cond b (f n) 0 + (sum n g + g n)
-    by-last true rest last = omega arith
-    by-last false rest last = omega arith
 
 module _ (n : ℕ) (a : Accounts) (q : ℕ → Bool) (none-negative : (i : ℕ) → i < n → a .given i ≤ held a i) where
   pub margin-least : difference 0 (total n a) ≤ℤ margin n a q
@@ -41,13 +29,9 @@ module _ (n : ℕ) (a : Accounts) (q : ℕ → Bool) (none-negative : (i : ℕ) 
   margin-most e =
       rw (margin-is n a q, pos-difference (total n a))
       (difference-le _ _ (total n a) 0
-      (omega (arith, part-rest n q (a .given) (held a) none-negative, sum-add n (a .start) (a .received))))
+      (omega (arith, sumIn-rest n q (a .given) (held a) none-negative, sum-add n (a .start) (a .received))))
 
 -- ---- nobody
-
-sumIn-nobody : (n : ℕ) (q : ℕ → Bool) (f : ℕ → ℕ) → ((i : ℕ) → i < n → q i ≡ false) → sumIn n q f ≡ 0
-unfolding sumIn
-sumIn-nobody n q f e = sum-zero n _ (λ i l. rw (e i l) refl)
 
 -- no servers are no quorum
 pub nobody-quorum : (n : ℕ) (a : Accounts) (q : ℕ → Bool) → ((i : ℕ) → i < n → q i ≡ false) → quorum n a q ≡ false
@@ -56,23 +40,6 @@ nobody-quorum n a q e =
     quorum-is n a q ∙ le-ltb _ _ none
 
 -- ---- what is missing
-
--- the servers of two sets
-abbrev pub either : (ℕ → Bool) → (ℕ → Bool) → ℕ → Bool
-either q r i = cond (q i) true (r i)
-
--- of sets that share none
-sumIn-either : (n : ℕ) (q r : ℕ → Bool) (f : ℕ → ℕ) → ((i : ℕ) → i < n → q i ≡ true → r i ≡ false) → sumIn n (either q r) f ≡ sumIn n q f + sumIn n r f
-unfolding sumIn sum
-sumIn-either zero q r f apart = refl
-sumIn-either (suc n) q r f apart = by-last (q n) (r n) refl refl (sumIn-either n q r f (λ i l. apart i (omega arith)))
-  where
-    by-last : (b c : Bool) → q n ≡ b → r n ≡ c → sumIn n (either q r) f ≡ sumIn n q f + sumIn n r f
-        → sumIn n (either q r) f + cond (cond b true c) (f n) 0 ≡ sumIn n q f + cond b (f n) 0 + (sumIn n r f + cond c (f n) 0)
-    by-last true true d e rest = let z : false ≡ true = sym (apart n (le-refl (suc n)) d) ∙ e in let y : _≡_ {A = ℕ} 0 1 = cc in absurd (omega arith)
-    by-last true false d e rest = omega arith
-    by-last false true d e rest = omega arith
-    by-last false false d e rest = omega arith
 
 -- The servers of q have the margin −y: with those of r, none of which is in q, they are a quorum exactly when these weigh more than y / 2, rounded down.
 pub missing : (n : ℕ) (a : Accounts) (q r : ℕ → Bool) (y : ℕ) → ((i : ℕ) → i < n → q i ≡ true → r i ≡ false) → margin n a q ≡ difference 0 y
@@ -87,15 +54,7 @@ missing n a q r y apart e =
     ∙ rw (weightIn-is n a r) refl
 
 -- one server
-sumIn-one : (n i : ℕ) (f : ℕ → ℕ) → i < n → sumIn n (λ k. eqb k i) f ≡ f i
-unfolding sumIn
-sumIn-one n i f l = sum-same n _ _ (λ k h. by-test k (eqb k i) refl) ∙ sum-one n i (f i) l
-  where
-    by-test : (k : ℕ) (b : Bool) → eqb k i ≡ b → cond b (f k) 0 ≡ cond (eqb i k) (f i) 0
-    by-test k true e = let same : k ≡ i = eqb-true k i e in rw (eq-eqb i k (sym same)) (ap f same)
-    by-test k false e = rw (ne-eqb i k (λ d. eqb-false k i e (sym d))) refl
-
-pub weightIn-one : (n : ℕ) (a : Accounts) (i : ℕ) → i < n → weightIn n a (λ k. eqb k i) ≡ weight a i
+weightIn-one : (n : ℕ) (a : Accounts) (i : ℕ) → i < n → weightIn n a (λ k. eqb k i) ≡ weight a i
 unfolding weight
 weightIn-one n a i l = weightIn-is n a (λ k. eqb k i) ∙ ap₂ difference (sumIn-one n i (held a) l) (sumIn-one n i (a .given) l)
 

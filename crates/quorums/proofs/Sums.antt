@@ -5,8 +5,8 @@ use native.Mathlib.Numerals.{add-one}
 use native.Mathlib.Omega.{arith}
 use mathlib.Core.Path.{_≡_, refl, sym, ap, _∙_}
 use mathlib.Core.Logic.{_⊎_, ⊎-elim}
-use mathlib.Core.Bool.{Bool, true, false, cond}
-use borrow.Author.Tests.{eq-eqb, ne-eqb}
+use mathlib.Core.Bool.{Bool, true, false, cond, false≢true}
+use borrow.Author.Tests.{eq-eqb, ne-eqb, eqb-true, eqb-false}
 use lib.Dec.{eqb}
 use Rattle.quorums.specs.Sum.{sum, sumIn, size, all}
 
@@ -66,15 +66,6 @@ sum-one n k x l =
       sum-more n (λ i. 0) (λ i. cond (eqb k i) x 0) k x l (rw (eq-eqb k k refl) (omega arith)) (λ i m ne. rw (ne-eqb k i (λ e. ne (sym e)))),
       sum-zero n (λ i. 0) (λ i m. refl),
     )
-
--- one difference is at most the sum of all, where none is negative
-pub sum-rest : (n : ℕ) (f g : ℕ → ℕ) → ((i : ℕ) → i < n → f i ≤ g i) → (i : ℕ) → i < n → g i + sum n f ≤ f i + sum n g
-unfolding sum
-sum-rest zero f g h i l = absurd (omega arith)
-sum-rest (suc n) f g h i l =
-    ⊎-elim (λ (e : i ≡ n). rw e (omega (arith, sum-le n f g (λ j k. h j (omega arith)))))
-    (λ (k : i < n). omega (arith, sum-rest n f g (λ j m. h j (omega arith)) i k, h n (le-refl (suc n))))
-    (below-suc l)
 
 -- the first term apart
 pub sum-front : (n : ℕ) (f : ℕ → ℕ) → sum (suc n) f ≡ f 0 + sum n (λ i. f (suc i))
@@ -141,6 +132,52 @@ sumIn-all n f = refl
 pub sumIn-set : (n : ℕ) (p q : ℕ → Bool) (f : ℕ → ℕ) → ((i : ℕ) → i < n → p i ≡ q i) → sumIn n p f ≡ sumIn n q f
 unfolding sumIn
 sumIn-set n p q f e = sum-same n _ _ (λ i l. ap (λ b. cond b (f i) 0) (e i l))
+
+-- a set without members
+pub sumIn-nobody : (n : ℕ) (q : ℕ → Bool) (f : ℕ → ℕ) → ((i : ℕ) → i < n → q i ≡ false) → sumIn n q f ≡ 0
+unfolding sumIn
+sumIn-nobody n q f e = sum-zero n _ (λ i l. rw (e i l) refl)
+
+-- a set of one
+pub sumIn-one : (n i : ℕ) (f : ℕ → ℕ) → i < n → sumIn n (λ k. eqb k i) f ≡ f i
+unfolding sumIn
+sumIn-one n i f l = sum-same n _ _ (λ k h. by-test k (eqb k i) refl) ∙ sum-one n i (f i) l
+  where
+    by-test : (k : ℕ) (b : Bool) → eqb k i ≡ b → cond b (f k) 0 ≡ cond (eqb i k) (f i) 0
+    by-test k true e = let same : k ≡ i = eqb-true k i e in rw (eq-eqb i k (sym same)) (ap f same)
+    by-test k false e = rw (ne-eqb i k (λ d. eqb-false k i e (sym d))) refl
+
+-- the members of two sets
+abbrev pub either : (ℕ → Bool) → (ℕ → Bool) → ℕ → Bool
+either q r i = cond (q i) true (r i)
+
+-- of sets that share none
+pub sumIn-either : (n : ℕ) (q r : ℕ → Bool) (f : ℕ → ℕ) → ((i : ℕ) → i < n → q i ≡ true → r i ≡ false) → sumIn n (either q r) f ≡ sumIn n q f + sumIn n r f
+unfolding sumIn sum
+sumIn-either zero q r f apart = refl
+sumIn-either (suc n) q r f apart = by-last (q n) (r n) refl refl (sumIn-either n q r f (λ i l. apart i (omega arith)))
+  where
+    by-last : (b c : Bool) → q n ≡ b → r n ≡ c → sumIn n (either q r) f ≡ sumIn n q f + sumIn n r f
+        → sumIn n (either q r) f + cond (cond b true c) (f n) 0 ≡ sumIn n q f + cond b (f n) 0 + (sumIn n r f + cond c (f n) 0)
+    by-last true true d e rest = absurd (false≢true (sym (apart n (le-refl (suc n)) d) ∙ e))
+    by-last true false d e rest = omega arith
+    by-last false true d e rest = omega arith
+    by-last false false d e rest = omega arith
+
+-- what the differences of a set come to is at most what all do, where none is negative
+pub sumIn-rest : (n : ℕ) (q : ℕ → Bool) (f g : ℕ → ℕ) → ((i : ℕ) → i < n → f i ≤ g i) → sumIn n q g + sum n f ≤ sumIn n q f + sum n g
+unfolding sumIn sum
+sumIn-rest zero q f g h = le-refl 0
+sumIn-rest (suc n) q f g h = by-last (q n) (sumIn-rest n q f g (λ i l. h i (omega arith))) (h n (le-refl (suc n)))
+  where
+    by-last : (b : Bool) → sumIn n q g + sum n f ≤ sumIn n q f + sum n g → f n ≤ g n
+        → sumIn n q g + cond b (g n) 0 + (sum n f + f n) ≤ sumIn n q f + cond b (f n) 0 + (sum n g + g n)
+    by-last true rest last = omega arith
+    by-last false rest last = omega arith
+
+-- and so is one of them
+pub sum-rest : (n : ℕ) (f g : ℕ → ℕ) → ((i : ℕ) → i < n → f i ≤ g i) → (i : ℕ) → i < n → g i + sum n f ≤ f i + sum n g
+sum-rest n f g h i l = omega (arith, sumIn-rest n (λ k. eqb k i) f g h, sumIn-one n i f l, sumIn-one n i g l)
 
 -- k for each member
 pub sumIn-const : (n k : ℕ) (q : ℕ → Bool) → sumIn n q (λ i. k) ≡ size n q * k

@@ -8,15 +8,17 @@ use mathlib.Core.Logic.{_⊎_, inl, inr, ⊎-elim, _↔_}
 use mathlib.Core.Bool.{Bool, true, false, cond, not}
 use mathlib.Core.List.{List, [], _∷_}
 use borrow.Author.Tests.{lt-ltb, le-ltb, eq-eqb, ne-eqb, eqb-true, le-leb}
-use lib.Dec.{eqb, ltb}
+use lib.Dec.{eqb}
+use lib.IntN.{pos}
+use lib.Signed.{ltZ}
 use lib.ListN.{length, getD, set, length-set, List·getD-eq-default}
 use lib.Seq.{getD-set-same, getD-set-other}
 use Rattle.quorums.specs.Sum.{sum, sumIn}
 use Rattle.quorums.specs.Difference.{difference}
-use Rattle.quorums.specs.Accounts.{held, weight, total, weightIn}
+use Rattle.quorums.specs.Accounts.{held, weight, total, weightIn, quorum}
 use Rattle.quorums.proofs.Tests.{le-or-lt}
 use Rattle.quorums.proofs.Sums.{sum-same, sumIn-same, sumIn-set, each-all}
-use Rattle.quorums.proofs.Weights.{weightIn-is, margin-is, quorum-is}
+use Rattle.quorums.proofs.Weights.{weightIn-is, margin-is}
 use Rattle.format.proofs.Same.{SameSheet}
 use Rattle.config.specs.Cluster.{validOf, startOf, aboveOf, mostWeight}
 use Rattle.config.specs.declared.cluster.Config.{Config}
@@ -28,6 +30,7 @@ use Rattle.ledger.specs.Weights.{weightOf, allOf, marginOf, quorumOf}
 use Rattle.ledger.specs.Checks.{mayHold, totalFits, cellFits, rowFits, serverAbove, bounded, aboveFloor}
 use Rattle.ledger.specs.Joins.{agree, agreeAt, laterAt, largerAt, joins, joined, lacks}
 use Rattle.ledger.specs.Changes.{added}
+use Rattle.ledger.proofs.Answers.{quorum-margin}
 use Rattle.ledger.proofs.Tables.{table-length, table-at, table-same, is-table}
 use Rattle.ledger.proofs.Totals.{told-bounded}
 use Rattle.ledger.proofs.Added.{may-hold-placed}
@@ -199,7 +202,7 @@ module _ (c : Config) (valid : validOf c ≡ true) (a : Transfers) (w : SetRange
       placed k (no e) (inr h) (inl g) = may-hold-zero (c .n) k _ (w .takers-inside (k / 16) (k % 16) g)
       placed k (no e) (inr h) (inr g) = may-hold-placed (c .n) k _ h g e
 
-  -- ---- weights and quorums
+  -- ---- weights, margins and quorums
 
   pub weight-for : (i : ℕ) → i < c .n → weightOf c (ledgerFor a) i ≡ plainWeight c a i
   unfolding weightOf plainWeight weight
@@ -221,19 +224,16 @@ module _ (c : Config) (valid : validOf c ≡ true) (a : Transfers) (w : SetRange
       ∙ ap₂ difference (held-in (λ i. true) (λ i. true) (λ i l. refl)) (given-in (λ i. true) (λ i. true) (λ i l. refl))
       ∙ sym (weightIn-is (c .n) (accounts c a) (λ i. true))
 
-  pub quorum-for : (m : ℕ) (q : ℕ → Bool) → ((i : ℕ) → i < c .n → named m i ≡ q i) → quorumOf c (ledgerFor a) m ≡ plainQuorum c a q
-  unfolding quorumOf plainQuorum total
-  quorum-for m q e =
-      quorum-is (c .n) (accountsOf c (ledgerFor a)) (named m)
-      ∙ ap₂ (λ x y. ltb (2 * x + sum (c .n) (startOf c)) (2 * y)) (given-in (named m) q e) (held-in (named m) q e)
-      ∙ sym (quorum-is (c .n) (accounts c a) q)
-
   pub margin-for : (m : ℕ) (q : ℕ → Bool) → ((i : ℕ) → i < c .n → named m i ≡ q i) → marginOf c (ledgerFor a) m ≡ plainMargin c a q
   unfolding marginOf plainMargin total
   margin-for m q e =
       margin-is (c .n) (accountsOf c (ledgerFor a)) (named m)
       ∙ ap₂ (λ x y. difference (2 * y) (2 * x + sum (c .n) (startOf c))) (given-in (named m) q e) (held-in (named m) q e)
       ∙ sym (margin-is (c .n) (accounts c a) q)
+
+  pub quorum-for : (m : ℕ) (q : ℕ → Bool) → ((i : ℕ) → i < c .n → named m i ≡ q i) → quorumOf c (ledgerFor a) m ≡ plainQuorum c a q
+  unfolding plainQuorum quorum plainMargin
+  quorum-for m q e = quorum-margin c (ledgerFor a) m ∙ ap (ltZ (pos 0)) (margin-for m q e)
 
   pub above-for : Sound c a → aboveFloor c (ledgerFor a) ≡ true
   unfolding aboveFloor
