@@ -2,23 +2,25 @@
 use Prim.Native.Nat.{ℕ, suc, _+_, _-_, _*_, _/_, _≤_, _<_}
 use native.Mathlib.Nat.{add-mul, div-lt-iff-lt-mul, div-le-self, lt-of-mul-lt-mul-right, lt-of-le-of-lt, le-add-right}
 use native.Mathlib.Omega.{arith}
-use mathlib.Core.Path.{_≡_, sym, ap, _∙_}
+use mathlib.Core.Path.{_≡_, refl, sym, ap, _∙_}
+use mathlib.Core.Logic.{⊎-elim}
 use mathlib.Core.Bool.{Bool, true, false, cond, not}
-use borrow.Author.Tests.{le-leb, leb-true, lt-ltb, ltb-true, lt-leb}
-use lib.Dec.{leb, ltb}
+use borrow.Author.Tests.{le-leb, leb-true, lt-ltb, le-ltb, ltb-true, lt-leb, eq-eqb, ne-eqb, eqb-true}
+use lib.Dec.{leb, ltb, eqb}
 use lib.IntN.{ℤ, pos, negsuc}
 use lib.Signed.{ltZ}
 use Rattle.quorums.specs.Difference.{difference}
-use Rattle.quorums.proofs.Sums.{sum-const}
-use Rattle.quorums.proofs.Tests.{ltb-same, leb-not, both, chosen-first, chosen-second}
+use Rattle.quorums.specs.Sum.{sum, all}
+use Rattle.quorums.proofs.Sums.{sum-const, sum-rest, sum-extend, all-each, each-all}
+use Rattle.quorums.proofs.Tests.{le-or-lt, ltb-same, leb-not, one-test, both, chosen-first}
 use Rattle.quorums.proofs.Differences.{pos-difference, difference-down}
 use Rattle.quorums.proofs.Weights.{above-is}
 use Rattle.config.specs.declared.cluster.Config.{Config}
 use Rattle.config.specs.Refusals.{refusal}
 use Rattle.config.specs.declared.answer.Refusal.{Refusal}
 use Rattle.config.specs.declared.answer.Number.{Number}
-use Rattle.config.specs.Cluster.{validOf, serverOf, startOf, totalOf, aboveOf, leastOf}
-use Rattle.config.specs.Answers.{totalAnswer, leastAnswer}
+use Rattle.config.specs.Cluster.{validOf, lawfulOf, endsOf, startsAbove, startFits, clusterFault, serverOf, startOf, totalOf, aboveOf, leastOf}
+use Rattle.config.specs.Answers.{judged, totalAnswer, leastAnswer}
 
 -- ---- validity
 
@@ -51,21 +53,52 @@ pub valid-server : (c : Config) (i : ℕ) → validOf c ≡ true → i < c .n �
 unfolding serverOf
 valid-server c i v l = rw v (lt-ltb _ _ l)
 
+-- ---- lawful start weights
+
+-- what they are by: n and f, zeros from n on, a total of at most 16,000, and each above the floor
+pub record Lawful (c : Config) : Type 0 where
+  pub valid : validOf c ≡ true
+  pub ends : endsOf c ≡ true
+  pub small : totalOf c ≤ 16000
+  pub each-above : startsAbove c ≡ true
+
+pub lawful-told : (c : Config) → lawfulOf c ≡ true → Lawful c
+unfolding lawfulOf
+lawful-told c e =
+    let x = both (validOf c) _ e in
+    let y = both (endsOf c) _ (x .1) in
+    let z = both (leb (totalOf c) 16000) _ (y .1) in
+    record { valid = x .0; ends = y .0; small = leb-true _ _ (z .0); each-above = z .1 }
+
+pub told-lawful : (c : Config) → Lawful c → lawfulOf c ≡ true
+unfolding lawfulOf
+told-lawful c l = rw (l .valid, l .ends, le-leb _ _ (l .small)) (l .each-above)
+
+pub lawful-valid : (c : Config) → lawfulOf c ≡ true → validOf c ≡ true
+lawful-valid c e = lawful-told c e .valid
+
+pub lawful-bounds : (c : Config) → lawfulOf c ≡ true → Bounds c
+lawful-bounds c e = valid-bounds c (lawful-valid c e)
+
+-- no start weights make up for n and f out of bounds
+pub not-lawful : (c : Config) → validOf c ≡ false → lawfulOf c ≡ false
+unfolding lawfulOf
+not-lawful c e = rw e refl
+
 -- ---- the total and the floor
 
-pub total-is : (c : Config) → totalOf c ≡ c .n * 1000
-unfolding totalOf startOf
-total-is c = sum-const (c .n) 1000
-
 -- W, each start weight and the least weight are small
-pub total-small : (c : Config) → validOf c ≡ true → totalOf c ≤ 16000
-total-small c v = omega (arith, total-is c, valid-bounds c v .most)
+pub total-small : (c : Config) → lawfulOf c ≡ true → totalOf c ≤ 16000
+total-small c e = lawful-told c e .small
 
-pub start-small : (c : Config) (i : ℕ) → startOf c i ≤ 16000
-unfolding startOf
-start-small c i = omega arith
+pub start-small : (c : Config) (i : ℕ) → lawfulOf c ≡ true → i < c .n → startOf c i ≤ 16000
+unfolding totalOf
+start-small c i e l =
+    let t = total-small c e in
+    let z = sum-const (c .n) 0 in
+    omega (arith, sum-rest (c .n) (λ k. 0) (startOf c) (λ k h. omega arith) i l)
 
-pub least-small : (c : Config) → validOf c ≡ true → leastOf c ≤ 16001
+pub least-small : (c : Config) → lawfulOf c ≡ true → leastOf c ≤ 16001
 unfolding leastOf
 least-small c v = omega (arith, div-le-self (totalOf c) (2 * (c .n - c .f)), total-small c v)
 
@@ -102,37 +135,173 @@ above-not-less c (negsuc x) v = rw (below x, above-least c 0 (suc x) v) (lt-leb 
     below : (x : ℕ) → negsuc x ≡ difference 0 (suc x)
     below x = ap negsuc (omega arith) ∙ sym (difference-down 0 (suc x) (omega arith))
 
--- Every start weight is above the floor, because 2f < n.
-pub start-above : (c : Config) (i : ℕ) → validOf c ≡ true → aboveOf c (difference (startOf c i) 0) ≡ true
-unfolding aboveOf startOf
-start-above c i v =
-    let h : 0 * (2 * (c .n - c .f)) + totalOf c < 1000 * (2 * (c .n - c .f)) = omega (arith, total-is c, valid-bounds c v .crash) in
-    above-is (c .n) (c .f) (totalOf c) 1000 0 ∙ lt-ltb _ _ h
+-- Every start weight is above the floor.
+pub start-above : (c : Config) (i : ℕ) → lawfulOf c ≡ true → i < c .n → aboveOf c (difference (startOf c i) 0) ≡ true
+unfolding startsAbove
+start-above c i v l = ap (aboveOf c) (sym (pos-difference (startOf c i))) ∙ all-each (c .n) _ (lawful-told c v .each-above) i l
+
+-- so it is no less than the least weight
+pub start-least : (c : Config) (i : ℕ) → validOf c ≡ true → aboveOf c (pos (startOf c i)) ≡ leb (leastOf c) (startOf c i)
+start-least c i v =
+    let whole : 0 + leastOf c ≡ leastOf c = omega arith in
+    ap (aboveOf c) (pos-difference (startOf c i)) ∙ above-least c (startOf c i) 0 v ∙ ap (λ x. leb x (startOf c i)) whole
+
+-- ---- the test of 16 start weights at once
+
+-- whether the start weight at i is 0, from n on
+abbrev endAt : Config → ℕ → Bool
+endAt c i = cond (ltb i (c .n)) true (eqb (startOf c i) 0)
+
+-- Where those from n on are 0, W is the sum of all 16.
+pub total-all : (c : Config) → validOf c ≡ true → endsOf c ≡ true → sum 16 (startOf c) ≡ totalOf c
+unfolding endsOf totalOf
+total-all c v e =
+    let most = valid-bounds c v .most in
+    let k : c .n + (16 - c .n) ≡ 16 = omega arith in
+    ap (λ m. sum m (startOf c)) (sym k)
+    ∙ sum-extend (c .n) (16 - c .n) (startOf c)
+    (λ i from to.
+    let here = all-each 16 (endAt c) e i (omega arith) in
+    eqb-true (startOf c i) 0 (rw (le-ltb i (c .n) from) at here))
+
+-- the tests of 16 start weights, of which S is the sum
+abbrev pub fitAt : Config → ℕ → ℕ → Bool
+fitAt c S i = startFits (startOf c i) i (c .n) (S / (2 * (c .n - c .f)) + 1)
+
+abbrev pub allFit : Config → ℕ → Bool
+allFit c S = cond (leb S 16000) (all 16 (fitAt c S)) false
+
+-- They are passed by exactly the lawful ones: those from n on are 0, so that S is W.
+pub lawful-fit : (c : Config) → validOf c ≡ true → allFit c (sum 16 (startOf c)) ≡ lawfulOf c
+unfolding startFits endsOf startsAbove leastOf
+lawful-fit c v = one-test (allFit c S) (lawfulOf c) to from
+  where
+    S : ℕ
+    S = sum 16 (startOf c)
+    to : allFit c S ≡ true → lawfulOf c ≡ true
+    to e =
+        let x = both (leb S 16000) (all 16 (fitAt c S)) e in
+        let each = all-each 16 (fitAt c S) (x .1) in
+        let ends : endsOf c ≡ true =
+            each-all 16 (endAt c)
+            (λ i l.
+            ⊎-elim (λ (h : c .n ≤ i). let here = each i l in rw (le-ltb i (c .n) h) (rw (le-ltb i (c .n) h) at here))
+            (λ (h : i < c .n). rw (lt-ltb i (c .n) h) refl)
+            (le-or-lt (c .n) i)) in
+        let same = total-all c v ends in
+        let above : (i : ℕ) → i < c .n → aboveOf c (pos (startOf c i)) ≡ true =
+            λ i l. let here = each i (omega (arith, valid-bounds c v .most)) in start-least c i v ∙ (rw (lt-ltb i (c .n) l, same) at here) in
+        told-lawful c (record { valid = v; ends = ends; small = omega (arith, leb-true S 16000 (x .0), same); each-above = each-all (c .n) _ above })
+    from : lawfulOf c ≡ true → allFit c S ≡ true
+    from e =
+        let l = lawful-told c e in
+        let same = total-all c v (l .ends) in
+        let few : S ≤ 16000 = omega (arith, same, l .small) in
+        let each : (i : ℕ) → i < 16 → fitAt c S i ≡ true =
+            λ i h.
+            ⊎-elim (λ (b : c .n ≤ i). let here = all-each 16 (endAt c) (l .ends) i h in rw (le-ltb i (c .n) b) (rw (le-ltb i (c .n) b) at here))
+            (λ (b : i < c .n).
+            rw (lt-ltb i (c .n) b, same) (sym (start-least c i v) ∙ all-each (c .n) (λ k. aboveOf c (pos (startOf c k))) (l .each-above) i b))
+            (le-or-lt (c .n) i) in
+        rw (le-leb S 16000 few) (each-all 16 (fitAt c S) each)
 
 -- ---- answers
 
 pub value-not-refused : (x : ℕ) (r : Refusal) → Number.Value x ≡ Number.Refused r → ⊥
 value-not-refused x r e = let z : _≡_ {A = ℕ} 0 1 = cc in omega arith
 
-told-value : (b : Bool) (x y : ℕ) → cond b (Number.Value x) (Number.Refused (refusal 1)) ≡ Number.Value y → (b ≡ true) × (y ≡ x)
-told-value b x y e = let t = chosen-first b _ _ _ (λ d. value-not-refused _ _ (sym d)) e in (t .0, cc)
-
-told-refused : (b : Bool) (x : ℕ) (r : Refusal) → cond b (Number.Value x) (Number.Refused (refusal 1)) ≡ Number.Refused r → b ≡ false
-told-refused b x r e = chosen-second b _ _ _ (value-not-refused _ _) e
+refused-value : (r : Refusal) (x : ℕ) → Number.Refused r ≡ Number.Value x → ⊥
+refused-value r x e = value-not-refused x r (sym e)
 
 -- what an answer with a value tells, and one that refuses
-pub total-told : (c : Config) (y : ℕ) → totalAnswer c ≡ Number.Value y → (validOf c ≡ true) × (y ≡ totalOf c)
+told-value : (c : Config) (x y : ℕ) → judged (validOf c) c (Number.Value x) Number.Refused ≡ Number.Value y → (lawfulOf c ≡ true) × (y ≡ x)
+told-value c x y e =
+    let first = chosen-first (validOf c) _ _ _ (refused-value _ y) e in
+    let second = chosen-first (lawfulOf c) _ _ _ (refused-value _ y) (first .1) in
+    (second .0, cc (second .1))
+
+-- the number of a refusal is the cluster's
+told-refused : (c : Config) (x : ℕ) (r : Refusal) → judged (validOf c) c (Number.Value x) Number.Refused ≡ Number.Refused r
+    → (lawfulOf c ≡ false) × (r ≡ refusal (clusterFault c))
+unfolding clusterFault
+told-refused c x r e = by-valid (validOf c) refl
+  where
+    by-lawful : (t : Bool) → lawfulOf c ≡ t → validOf c ≡ true → (lawfulOf c ≡ false) × (r ≡ refusal (clusterFault c))
+    by-lawful true l v = absurd (value-not-refused x r (rw (v, l) at e))
+    by-lawful false l v = let z = rw (v, l) at e in (l, rw (v, l) (cc z))
+    by-valid : (t : Bool) → validOf c ≡ t → (lawfulOf c ≡ false) × (r ≡ refusal (clusterFault c))
+    by-valid true v = by-lawful (lawfulOf c) refl v
+    by-valid false v = let z = rw v at e in (not-lawful c v, rw v (cc z))
+
+pub total-told : (c : Config) (y : ℕ) → totalAnswer c ≡ Number.Value y → (lawfulOf c ≡ true) × (y ≡ totalOf c)
 unfolding totalAnswer
-total-told c y e = told-value (validOf c) (totalOf c) y e
+total-told c y e = told-value c (totalOf c) y e
 
-pub total-refused : (c : Config) (r : Refusal) → totalAnswer c ≡ Number.Refused r → validOf c ≡ false
+pub total-refused : (c : Config) (r : Refusal) → totalAnswer c ≡ Number.Refused r → (lawfulOf c ≡ false) × (r ≡ refusal (clusterFault c))
 unfolding totalAnswer
-total-refused c r e = told-refused (validOf c) (totalOf c) r e
+total-refused c r e = told-refused c (totalOf c) r e
 
-pub least-told : (c : Config) (y : ℕ) → leastAnswer c ≡ Number.Value y → (validOf c ≡ true) × (y ≡ leastOf c)
+pub least-told : (c : Config) (y : ℕ) → leastAnswer c ≡ Number.Value y → (lawfulOf c ≡ true) × (y ≡ leastOf c)
 unfolding leastAnswer
-least-told c y e = told-value (validOf c) (leastOf c) y e
+least-told c y e = told-value c (leastOf c) y e
 
-pub least-refused : (c : Config) (r : Refusal) → leastAnswer c ≡ Number.Refused r → validOf c ≡ false
+pub least-refused : (c : Config) (r : Refusal) → leastAnswer c ≡ Number.Refused r → (lawfulOf c ≡ false) × (r ≡ refusal (clusterFault c))
 unfolding leastAnswer
-least-refused c r e = told-refused (validOf c) (leastOf c) r e
+least-refused c r e = told-refused c (leastOf c) r e
+
+-- what a call on a lawful cluster answers, and one on a cluster that isn't
+pub judged-lawful : {A : Type 0} (c : Config) (x : A) (refused : Refusal → A) → lawfulOf c ≡ true → judged (validOf c) c x refused ≡ x
+judged-lawful c x refused e = rw (lawful-valid c e, e) refl
+
+pub judged-fault : {A : Type 0} (c : Config) (x : A) (refused : Refusal → A) → lawfulOf c ≡ false → judged (validOf c) c x refused ≡ refused (refusal (clusterFault c))
+unfolding clusterFault
+judged-fault {A} c x refused e = by-valid (validOf c)
+  where
+    by-valid : (t : Bool) → cond t (cond (lawfulOf c) x (refused (refusal 15))) (refused (refusal 1)) ≡ refused (refusal (cond t (cond (lawfulOf c) 0 15) 1))
+    by-valid true = rw e refl
+    by-valid false = refl
+
+-- the cluster's number is 0 exactly for a lawful one, and else a refusal's
+pub fault-none : (c : Config) → lawfulOf c ≡ true → clusterFault c ≡ 0
+unfolding clusterFault
+fault-none c e = rw (lawful-valid c e, e) refl
+
+pub fault-some : (c : Config) → lawfulOf c ≡ false → (1 ≤ clusterFault c) × (clusterFault c ≤ 15)
+unfolding clusterFault
+fault-some c e = by-valid (validOf c)
+  where
+    by-valid : (t : Bool) → (1 ≤ cond t (cond (lawfulOf c) 0 15) 1) × (cond t (cond (lawfulOf c) 0 15) 1 ≤ 15)
+    by-valid true = rw e (omega arith, omega arith)
+    by-valid false = (omega arith, omega arith)
+
+pub fault-lawful : (c : Config) → eqb (clusterFault c) 0 ≡ lawfulOf c
+fault-lawful c = by-lawful (lawfulOf c) refl
+  where
+    by-lawful : (t : Bool) → lawfulOf c ≡ t → eqb (clusterFault c) 0 ≡ t
+    by-lawful true e = eq-eqb (clusterFault c) 0 (fault-none c e)
+    by-lawful false e = ne-eqb (clusterFault c) 0 (λ z. omega (arith, z, fault-some c e .0))
+
+-- ---- the least weight from the sum of 16
+
+module _ (c : Config) (S : ℕ) (is : S ≡ sum 16 (startOf c)) (v : validOf c ≡ true) where
+  fit : lawfulOf c ≡ allFit c S
+  fit = sym (lawful-fit c v) ∙ ap (allFit c) (sym is)
+
+  pub least-over : 16000 < S → Number.Refused (refusal 15) ≡ leastAnswer c
+  unfolding leastAnswer
+  least-over l = let no : lawfulOf c ≡ false = fit ∙ rw (lt-leb S 16000 l) refl in rw (v, no) refl
+
+  pub least-unfit : S ≤ 16000 → all 16 (fitAt c S) ≡ false → Number.Refused (refusal 15) ≡ leastAnswer c
+  unfolding leastAnswer
+  least-unfit l e = let no : lawfulOf c ≡ false = fit ∙ rw (le-leb S 16000 l, e) refl in rw (v, no) refl
+
+  pub least-fit : S ≤ 16000 → all 16 (fitAt c S) ≡ true → Number.Value (S / (2 * (c .n - c .f)) + 1) ≡ leastAnswer c
+  unfolding leastAnswer leastOf
+  least-fit l e =
+      let yes : lawfulOf c ≡ true = fit ∙ rw (le-leb S 16000 l, e) refl in
+      let total : S ≡ totalOf c = is ∙ total-all c v (lawful-told c yes .ends) in
+      rw (v, yes, total) refl
+
+-- W is the sum of 16 too
+pub total-sum : (c : Config) → lawfulOf c ≡ true → sum 16 (startOf c) ≡ totalOf c
+total-sum c e = total-all c (lawful-valid c e) (lawful-told c e .ends)

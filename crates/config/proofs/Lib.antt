@@ -1,3 +1,5 @@
--- Laws of the refusals and of the cluster, for use above.
+-- Laws of the refusals, of the cluster and of what a call is given, for use above.
 pub mod Refusals
 pub mod Clusters
+pub mod Houses
+mod Filled

@@ -11,7 +11,7 @@ use Rattle.quorums.proofs.Tests.{le-or-lt, chosen-first}
 use Rattle.config.specs.Refusals.{numberOf, refusals, mostRefusal, refusal, meaning}
 use Rattle.config.specs.declared.answer.Meaning.{Meaning}
 use Rattle.config.specs.declared.answer.Refusal.{Refusal}
-use Rattle.config.specs.declared.answer.Refusal.the-variants.{BadHouse, Torn, BadMap, OddField, Light, Clash, Stray, Busy, Idle, Thin, BadTransfer, Spent, Narrow, Long}
+use Rattle.config.specs.declared.answer.Refusal.the-variants.{BadHouse, Torn, BadMap, OddField, Light, Clash, Stray, Busy, Idle, Thin, BadTransfer, Spent, Narrow, Long, BadStart}
 
 -- k, k + 1, … , n numbers in all
 from : ℕ → ℕ → List ℕ
@@ -54,6 +54,7 @@ meaning-number BadTransfer = refl
 meaning-number Spent = refl
 meaning-number Narrow = refl
 meaning-number Long = refl
+meaning-number BadStart = refl
 
 -- every number from 1 to the largest stands for its refusal
 pub meaning-refusal : (k : ℕ) → 1 ≤ k → k ≤ mostRefusal → meaning k ≡ Meaning.Refusal (refusal k)

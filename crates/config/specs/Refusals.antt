@@ -1,4 +1,4 @@
--- The number of each refusal (paper 01, "Numbers handed out"), what each number stands for, and what is done after a verdict.
+-- The number of each refusal (paper 01, "Numbers handed out"; paper 02: 15 from N2), what each number stands for, and what is done after a verdict.
 use Prim.Native.Nat.{ℕ, _-_}
 use mathlib.Core.Bool.{cond}
 use mathlib.Core.List.{List, [], _∷_}
@@ -8,7 +8,7 @@ use Rattle.config.specs.declared.answer.Refusal.{Refusal}
 use Rattle.config.specs.declared.answer.Meaning.{Meaning}
 use Rattle.config.specs.declared.answer.Verdict.{Verdict}
 use Rattle.config.specs.declared.answer.Verdict.the-variants.{Accepted, Refused}
-use Rattle.config.specs.declared.answer.Refusal.the-variants.{BadHouse, Torn, BadMap, OddField, Light, Clash, Stray, Busy, Idle, Thin, BadTransfer, Spent, Narrow, Long}
+use Rattle.config.specs.declared.answer.Refusal.the-variants.{BadHouse, Torn, BadMap, OddField, Light, Clash, Stray, Busy, Idle, Thin, BadTransfer, Spent, Narrow, Long, BadStart}
 
 abbrev pub numberOf : Refusal → ℕ
 numberOf BadHouse = 1
@@ -25,15 +25,16 @@ numberOf BadTransfer = 11
 numberOf Spent = 12
 numberOf Narrow = 13
 numberOf Long = 14
+numberOf BadStart = 15
 
 -- the refusals in the order of their numbers, the first of which is 1
 abbrev pub refusals : List Refusal
 refusals =
-    BadHouse ∷ Torn ∷ BadMap ∷ OddField ∷ Light ∷ Clash ∷ Stray ∷ Busy ∷ Idle ∷ Thin ∷ BadTransfer ∷ Spent ∷ Narrow ∷ Long ∷ []
+    BadHouse ∷ Torn ∷ BadMap ∷ OddField ∷ Light ∷ Clash ∷ Stray ∷ Busy ∷ Idle ∷ Thin ∷ BadTransfer ∷ Spent ∷ Narrow ∷ Long ∷ BadStart ∷ []
 
 -- the largest number
 abbrev pub mostRefusal : ℕ
-mostRefusal = 14
+mostRefusal = 15
 
 -- The refusal of a number from 1 to the largest. Definitions name a refusal by its number; 0, and what is above the largest, has none of its own.
 abbrev pub refusal : ℕ → Refusal

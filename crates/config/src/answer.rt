@@ -1,8 +1,8 @@
-// Answers: the refusals of paper 01, "Numbers handed out", and the forms of answer that hold one.
+// Answers: the refusals of paper 01, "Numbers handed out", and of paper 02, and the forms of answer that hold one.
 ghost use mathlib.Core.Path.{_≡_};
 ghost use Rattle.config.specs.Refusals.{numberOf, meaning};
 
-// Why a call refuses. `numberOf` gives paper 01's number for each.
+// Why a call refuses. `numberOf` gives the papers' number for each.
 pub enum Refusal {
     BadHouse,
     Torn,
@@ -18,6 +18,7 @@ pub enum Refusal {
     Spent,
     Narrow,
     Long,
+    BadStart,
 }
 
 // What a number stands for: the refusal that has it, or none, as with 0 and with what is above the largest.
@@ -27,9 +28,9 @@ pub enum Meaning {
 }
 
 // The largest number, and the refusals in the order of their numbers.
-const MOST_REFUSAL: u64 = 14;
+const MOST_REFUSAL: u64 = 15;
 
-const REFUSALS: [Refusal; 14] = [
+const REFUSALS: [Refusal; 15] = [
     Refusal::BadHouse,
     Refusal::Torn,
     Refusal::BadMap,
@@ -44,6 +45,7 @@ const REFUSALS: [Refusal; 14] = [
     Refusal::Spent,
     Refusal::Narrow,
     Refusal::Long,
+    Refusal::BadStart,
 ];
 
 impl Refusal {
@@ -65,6 +67,7 @@ impl Refusal {
             Refusal::Spent => 12,
             Refusal::Narrow => 13,
             Refusal::Long => 14,
+            Refusal::BadStart => 15,
         }
     }
 

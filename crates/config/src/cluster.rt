@@ -1,16 +1,23 @@
-// The cluster's parameters (paper 01: house): how many servers there are, how many may crash, what each weighs at the start, and the floor.
+// The cluster's parameters (paper 01: house; paper 02, N2): how many servers there are, how many may crash, what each weighs at the start, and the floor.
 use super::answer::Decision;
 use super::answer::Number;
 use super::answer::Refusal;
 ghost use mathlib.Core.Path.{_≡_};
-ghost use Rattle.config.specs.Cluster.{configOf, validOf, serverOf, startOf, stampBytes, mostStamp};
-ghost use Rattle.config.specs.Answers.{startAnswer, totalAnswer, leastAnswer, aboveAnswer};
+ghost use mathlib.Core.Bool.{cond, not, false};
+ghost use Prim.Native.Nat.{_≤_};
+ghost use lib.IntN.{pos};
+ghost use lib.Signed.{ltZ};
+ghost use lib.ListN.{length, getD};
+ghost use Rattle.quorums.specs.Sum.{sum, all};
+ghost use Rattle.config.specs.Cluster.{validOf, serverOf, startOf, lawfulOf, clusterFault, startFits, stampBytes, mostStamp};
+ghost use Rattle.config.specs.Answers.{decide, startAnswer, totalAnswer, leastAnswer, aboveAnswer};
 
-// Servers 0 to n - 1, of which f may crash.
+// Servers 0 to n - 1, of which f may crash, and what each weighs at the start: n start weights, then zeros.
 #[repr(C)]
 pub struct Config {
     pub n: u64,
     pub f: u64,
+    pub starts: [u16; 16],
 }
 
 // The most servers that a cluster has.
@@ -19,17 +26,7 @@ pub const MOST_SERVERS: u64 = 16;
 // The most that the servers of any cluster weigh together.
 pub const MOST_WEIGHT: u64 = 16000;
 
-// What every server weighs at the start.
-const START: u64 = 1000;
-
 impl Config {
-    // The one place where numbers become a Config.
-    pub fn of(n: u64, f: u64) -> Config
-        ensures { λ r. ⌜ r ≡ configOf n f ⌝ }
-    {
-        Config { n, f }
-    }
-
     // Whether n and f are within bounds.
     pub fn valid(self) -> bool
         ensures { λ r. ⌜ r ≡ validOf self ⌝ }
@@ -72,6 +69,23 @@ impl Config {
         4294967295
     }
 
+    // What is wrong: 1 for n and f, 15 for the start weights, 0 for nothing.
+    pub fn fault(self) -> u64
+        ensures { λ r. ⌜ r ≡ clusterFault self ⌝ }
+    {
+        match self.least() {
+            Number::Value(_) => 0,
+            Number::Refused(r) => r.number(),
+        }
+    }
+
+    // Whether nothing is wrong.
+    pub fn lawful(self) -> bool
+        ensures { λ r. ⌜ r ≡ lawfulOf self ⌝ }
+    {
+        self.fault() == 0
+    }
+
     // The start weight of a server.
     pub fn start(self, server: u64) -> Number
         ensures { λ r. ⌜ r ≡ startAnswer self server ⌝ }
@@ -79,48 +93,130 @@ impl Config {
         if !self.has(server) {
             return Number::Refused(Refusal::BadHouse);
         }
+        if !self.lawful() {
+            return Number::Refused(Refusal::BadStart);
+        }
         Number::Value(self.start_at(server))
     }
 
-    // The same with no test, for loops over the servers of a cluster that has passed.
+    // The same with no test, and 0 where there is no such server, for loops over the servers of a cluster that has passed.
     pub fn start_at(self, server: u64) -> u64
         ensures { λ r. ⌜ r ≡ startOf self server ⌝ }
     {
-        START
+        start_in(&self.starts, server)
     }
 
     // W: the start weights of all servers together.
     pub fn total(self) -> Number
         ensures { λ r. ⌜ r ≡ totalAnswer self ⌝ }
     {
-        if !self.valid() {
-            return Number::Refused(Refusal::BadHouse);
+        match self.least() {
+            Number::Value(_) => Number::Value(sum_of(&self.starts)),
+            Number::Refused(r) => Number::Refused(r),
         }
-        Number::Value(self.n * START)
     }
 
-    // The least weight that is above the floor, which is the least that may remain to a server.
+    // The least weight that is above the floor, which is the least that may remain to a server. What is wrong with a cluster is found on the way.
     pub fn least(self) -> Number
         ensures { λ r. ⌜ r ≡ leastAnswer self ⌝ }
     {
-        let n = self.n;
-        let f = self.f;
-        let Number::Value(total) = self.total() else {
+        if !self.valid() {
             return Number::Refused(Refusal::BadHouse);
-        };
-        Number::Value(total / (2 * (n - f)) + 1)
+        }
+        let total = sum_of(&self.starts);
+        if MOST_WEIGHT < total {
+            return Number::Refused(Refusal::BadStart);
+        }
+        let least = total / (2 * (self.n - self.f)) + 1;
+        if !starts_fit(&self.starts, self.n as u16, least as u16) {
+            return Number::Refused(Refusal::BadStart);
+        }
+        Number::Value(least)
     }
 
     // Whether a weight is above the floor: weight × 2 × (n − f) > W.
     pub fn above_floor(self, weight: i64) -> Decision
         ensures { λ r. ⌜ r ≡ aboveAnswer self weight ⌝ }
     {
-        let Number::Value(least) = self.least() else {
-            return Decision::Refused(Refusal::BadHouse);
-        };
-        if weight < least as i64 {
-            return Decision::No;
+        match self.least() {
+            Number::Value(least) => at_least(weight, least),
+            Number::Refused(r) => Decision::Refused(r),
         }
-        Decision::Yes
     }
+}
+
+// Whether a weight is no less than another.
+fn at_least(weight: i64, least: u64) -> Decision
+    requires { ⌜ least ≤ 16001 ⌝ }
+    ensures { λ r. ⌜ r ≡ decide (not (ltZ weight (pos least))) ⌝ }
+{
+    if weight < least as i64 {
+        return Decision::No;
+    }
+    Decision::Yes
+}
+
+// One of 16 start weights, or 0.
+fn start_in(starts: &[u16], server: u64) -> u64
+    requires { ⌜ length (now starts) ≡ 16 ⌝ }
+    ensures { λ r. ⌜ r ≡ getD (now (starts .entry)) server 0 ⌝ }
+{
+    if MOST_SERVERS <= server {
+        return 0;
+    }
+    wide(starts[server as usize]) as u64
+}
+
+// The sum of 16 start weights. It looks at all of them, so that a compiler can add several at once.
+fn sum_of(starts: &[u16]) -> u64
+    requires { ⌜ length (now starts) ≡ 16 ⌝ }
+    ensures { λ r. ⌜ (r ≡ sum 16 (λ i. getD (now (starts .entry)) i 0)) × (r ≤ 1048560) ⌝ }
+{
+    let mut total: u32 = 0;
+    let mut i: usize = 0;
+    while i < 16 {
+        total += wide(starts[i]);
+        i += 1;
+    }
+    total as u64
+}
+
+// Whether the first n of 16 start weights are no less than the least weight above the floor, and those after them 0. It looks at all of them.
+fn starts_fit(starts: &[u16], n: u16, least: u16) -> bool
+    requires { ⌜ length (now starts) ≡ 16 ⌝ }
+    ensures { λ r. ⌜ r ≡ all 16 (λ i. startFits (getD (now (starts .entry)) i 0) i n least) ⌝ }
+{
+    let mut fits = true;
+    let mut i: u16 = 0;
+    while i < 16 {
+        fits = both(start_fits(starts[i as usize], i, n, least), fits);
+        i += 1;
+    }
+    fits
+}
+
+fn start_fits(start: u16, i: u16, n: u16, least: u16) -> bool
+    ensures { λ r. ⌜ r ≡ startFits start i n least ⌝ }
+{
+    if i < n {
+        return least <= start;
+    }
+    start == 0
+}
+
+// Two tests, of which the second is made in any case.
+fn both(first: bool, second: bool) -> bool
+    ensures { λ r. ⌜ r ≡ cond first second false ⌝ }
+{
+    if first {
+        return second;
+    }
+    false
+}
+
+// A number at a wider type, with its bound.
+fn wide(x: u16) -> u32
+    ensures { λ r. ⌜ (r ≡ x) × (r ≤ 65535) ⌝ }
+{
+    x as u32
 }

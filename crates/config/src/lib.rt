@@ -1,6 +1,7 @@
 // The parameters of a cluster, fixed when a party is opened, and the answers that every crate above gives.
 mod answer;
 mod cluster;
+mod list;
 
 pub use answer::Decision;
 pub use answer::Meaning;
@@ -11,3 +12,4 @@ pub use answer::Verdict;
 pub use cluster::Config;
 pub use cluster::MOST_SERVERS;
 pub use cluster::MOST_WEIGHT;
+pub use list::ConfigAnswer;

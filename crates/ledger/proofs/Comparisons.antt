@@ -16,7 +16,8 @@ use Rattle.ledger.specs.declared.ledger.Ledger.{Ledger}
 use Rattle.ledger.specs.Ledgers.{countOf, cellOf, givenOf}
 use Rattle.ledger.specs.Checks.{bounded}
 use Rattle.ledger.specs.Joins.{agree, agreeAt, rowAgrees, rowAgreesAt, hasAt, lacks, joins, joined, rowsCompared, comparedOf}
-use Rattle.ledger.proofs.Rows.{one-test, by-rows}
+use Rattle.quorums.proofs.Tests.{one-test}
+use Rattle.ledger.proofs.Rows.{by-rows}
 use Rattle.ledger.proofs.Totals.{cell-outside, count-empty}
 use Rattle.ledger.proofs.Unions.{joined-comm, joined-has}
 

@@ -11,14 +11,14 @@ use lib.Dec.{ltb, eqb}
 use lib.ListN.{getD}
 use Rattle.quorums.specs.Sum.{sum}
 use Rattle.quorums.proofs.Sums.{sum-next, sum-zero, sum-rest, sum-extend, all-each, each-all, all-same}
-use Rattle.quorums.proofs.Tests.{le-or-lt}
+use Rattle.quorums.proofs.Tests.{le-or-lt, one-test}
 use Rattle.config.specs.Cluster.{mostWeight}
 use Rattle.config.specs.declared.cluster.Config.{Config}
 use Rattle.ledger.specs.declared.ledger.Ledger.{Ledger}
 use Rattle.ledger.specs.Ledgers.{countOf, cellOf, givenOf, receivedOf}
 use Rattle.ledger.specs.Checks.{mayHold, totalFits, cellFits, rowFits, bounded}
 use Rattle.ledger.specs.Sums.{under, receivedFrom, rowFaults, filledRow, beyond, beyondFrom, faultsOf}
-use Rattle.ledger.proofs.Rows.{one-test, part, in-row}
+use Rattle.ledger.proofs.Rows.{part, in-row}
 use Rattle.ledger.proofs.Totals.{bounded-told, told-bounded, cell-placed, cell-outside, total-fits-told, Placed}
 
 -- a sum of 0 has nothing in it

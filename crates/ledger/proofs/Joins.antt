@@ -5,11 +5,11 @@ use mathlib.Core.Path.{_≡_, refl}
 use mathlib.Core.List.{List, []}
 use lib.ListN.{getD}
 use Rattle.ledger.specs.declared.ledger.Ledger.{Ledger}
-use Rattle.ledger.specs.Tables.{table}
+use Rattle.quorums.specs.Tables.{table}
 use Rattle.ledger.specs.Ledgers.{countOf, ledgerOf}
 use Rattle.ledger.specs.Joins.{later, laterAt, lacks}
 use Rattle.ledger.proofs.Rows.{part, in-row}
-use Rattle.ledger.proofs.Tables.{table-same}
+use Rattle.quorums.proofs.Tables.{table-same}
 
 -- the later of row i of b and row i of cells that are a's from that row on
 pub row-later : (a b : Ledger) (cells : List ℕ) (count i : ℕ) → count ≡ countOf a i → ((m : ℕ) → i * 16 ≤ m → getD cells m 0 ≡ getD (a .cells) m 0)

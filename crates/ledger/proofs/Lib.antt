@@ -4,7 +4,6 @@ pub mod Rows
 pub mod Maps
 pub mod Answers
 pub mod Checks
-pub mod Tables
 pub mod Tallies
 pub mod Written
 pub mod Weights

@@ -13,16 +13,7 @@ use Rattle.ledger.specs.declared.ledger.Ledger.{Ledger}
 use Rattle.ledger.specs.Ledgers.{countOf}
 use Rattle.ledger.specs.Joins.{agree, agreeAt, rowAgrees, rowAgreesAt}
 use Rattle.quorums.proofs.Sums.{all-suc, all-each, each-all, all-same}
-
--- two tests of which each holds where the other does are one
-pub one-test : (a b : Bool) → (a ≡ true → b ≡ true) → (b ≡ true → a ≡ true) → a ≡ b
-one-test true b to from = sym (to refl)
-one-test false true to from = from refl
-one-test false false to from = refl
-
--- a test is passed by all, turn by turn
-pub all-turn : (n : ℕ) (p : ℕ → Bool) (passed t : Bool) → passed ≡ all n p → t ≡ cond (p n) passed false → t ≡ all (n + 1) p
-all-turn n p passed t e h = h ∙ ap (λ x. cond (p n) x false) e ∙ sym (rw add-one (all-suc n p))
+use Rattle.quorums.proofs.Tests.{one-test}
 
 -- 256 cells are 16 rows of 16
 pub by-rows : (p : ℕ → Bool) → all 256 p ≡ all 16 (λ i. all 16 (λ j. p (i * 16 + j)))

@@ -13,9 +13,9 @@ use Rattle.quorums.proofs.Tests.{le-or-lt}
 use Rattle.config.specs.Cluster.{mostWeight}
 use Rattle.ledger.specs.declared.ledger.Ledger.{Ledger}
 use Rattle.ledger.specs.Ledgers.{countOf, cellOf, givenOf}
-use Rattle.ledger.specs.Tables.{table}
+use Rattle.quorums.specs.Tables.{table}
 use Rattle.ledger.specs.Sums.{Sums, under, receivedFrom, givenBelow, rowFaults}
-use Rattle.ledger.proofs.Tables.{is-table, table-at, table-length}
+use Rattle.quorums.proofs.Tables.{is-table, table-at, table-length}
 use Rattle.ledger.proofs.Rows.{part, in-row}
 use Rattle.ledger.proofs.Tallies.{Tallied, tally-none, tally-next, zeros-at, bounded, sum-most, sums-small}
 use Rattle.ledger.proofs.Weights.{counts-most}

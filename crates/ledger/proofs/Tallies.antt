@@ -10,9 +10,9 @@ use lib.Seq.{getD-set-same, getD-set-other}
 use Rattle.quorums.specs.Sum.{sum}
 use Rattle.quorums.proofs.Tests.{le-or-lt}
 use Rattle.quorums.proofs.Sums.{below-suc, sum-extend, sum-le, sum-const}
-use Rattle.ledger.specs.Tables.{table}
+use Rattle.quorums.specs.Tables.{table}
 use Rattle.ledger.specs.Sums.{Sums}
-use Rattle.ledger.proofs.Tables.{is-table, table-same, table-length, table-at}
+use Rattle.quorums.proofs.Tables.{is-table, table-same, table-length, table-at}
 
 -- ys is xs with f k added at each k below j
 pub record Tallied (f : ℕ → ℕ) (xs ys : List ℕ) (j : ℕ) : Type 0 where

@@ -14,7 +14,7 @@ use Rattle.quorums.proofs.Sums.{all-each, each-all, all-same}
 use Rattle.ledger.specs.declared.ledger.Ledger.{Ledger}
 use Rattle.ledger.specs.Ledgers.{countOf, Typed, accepted}
 use Rattle.ledger.specs.Joins.{agree, later, agreeAt, laterAt, largerAt, joins, joined, joinAnswer, hasAt, lacks}
-use Rattle.ledger.proofs.Tables.{table-length, table-at, table-same, is-table}
+use Rattle.quorums.proofs.Tables.{table-length, table-at, table-same, is-table}
 
 -- ---- what stands in a union
 

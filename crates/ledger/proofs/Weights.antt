@@ -23,8 +23,8 @@ use Rattle.ledger.specs.Ledgers.{cellOf, receivedOf, givenOf, accountsOf
 use Rattle.ledger.specs.Maps.{named}
 use Rattle.ledger.specs.Weights.{weightOf, marginOf}
 use Rattle.ledger.specs.Checks.{bounded, aboveFloor}
-use Rattle.ledger.specs.Tables.{table}
-use Rattle.ledger.proofs.Tables.{table-at}
+use Rattle.quorums.specs.Tables.{table}
+use Rattle.quorums.proofs.Tables.{table-at}
 use Rattle.ledger.specs.Sums.{accountsIn, allAbove, Sums, Weighs, receivedFrom, givenBelow}
 use Rattle.ledger.proofs.Tallies.{sum-most, sums-small}
 use Rattle.ledger.proofs.Faults.{from-all}

@@ -7,8 +7,8 @@ use mathlib.Core.List.{List, _++_}
 use lib.ListN.{length, getD, set, take, drop, length-set, length-append, length-take, length-drop, List·getD-append}
 use lib.Seq.{length-take-le, getD-append-add, getD-take, getD-drop, getD-set-other}
 use Rattle.quorums.proofs.Tests.{le-or-lt}
-use Rattle.ledger.specs.Tables.{table}
-use Rattle.ledger.proofs.Tables.{is-table, table-length, table-at, filled-next}
+use Rattle.quorums.specs.Tables.{table}
+use Rattle.quorums.proofs.Tables.{is-table, table-length, table-at, filled-next}
 
 -- ---- a part that comes back
 

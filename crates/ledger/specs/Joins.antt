@@ -9,7 +9,7 @@ use Rattle.config.specs.Refusals.{refusal}
 use Rattle.ledger.specs.declared.ledger.Ledger.{Ledger}
 use Rattle.ledger.specs.declared.ledger.Changed.{Changed}
 use Rattle.ledger.specs.declared.join.Compared.{Compared}
-use Rattle.ledger.specs.Tables.{table}
+use Rattle.quorums.specs.Tables.{table}
 use Rattle.ledger.specs.Ledgers.{countOf, cellOf, refused, accepted}
 
 -- of two rows with counts m and n, whether the cells x and y may stand at one place: equal at equal counts, and else the later no smaller

@@ -10,7 +10,7 @@ ghost use Prim.Native.Nat.{_≤_, min, max};
 ghost use lib.Dec.{eqb, leb};
 ghost use lib.ListN.{length, getD};
 ghost use Rattle.quorums.specs.Sum.{all};
-ghost use Rattle.ledger.specs.Tables.{table};
+ghost use Rattle.quorums.specs.Tables.{table};
 ghost use Rattle.ledger.specs.Ledgers.{ledgerOf, Shaped};
 ghost use Rattle.ledger.specs.Joins.{agree, joins as joinsOf, rowAgrees, rowsCompared, comparedOf, joined, later, joinAnswer, equal as equalOf, lacks as lacksOf};
 

@@ -20,7 +20,7 @@ ghost use Rattle.ledger.specs.Ledgers.{ledgerOf};
 ghost use Rattle.quorums.specs.Accounts.{margin};
 ghost use Rattle.ledger.specs.Maps.{named};
 ghost use Rattle.ledger.specs.Checks.{checkAnswer};
-ghost use Rattle.ledger.specs.Tables.{table};
+ghost use Rattle.quorums.specs.Tables.{table};
 ghost use Rattle.ledger.specs.Sums.{Sums, Weighs, accountsIn, allAbove, under as underOf, receivedFrom, givenBelow, filledRow, rowFaults, beyondFrom, faultsOf, weighedOf};
 
 // What the record test finds of a ledger, and the margin of a map on it: twice the weight of the servers that it names, less W; 0 where the ledger is

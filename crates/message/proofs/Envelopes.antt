@@ -10,7 +10,7 @@ use Rattle.config.specs.Refusals.{refusal}
 use Rattle.config.specs.declared.answer.Refusal.{Refusal}
 use Rattle.config.specs.declared.answer.Verdict.{Verdict}
 use Rattle.replica.specs.declared.replica.Replica.{Replica}
-use Rattle.ledger.specs.Tables.{run, table}
+use Rattle.quorums.specs.Tables.{run, table}
 use Rattle.replica.specs.Values.{bytesOf, emptyValue}
 use Rattle.replica.specs.Replicas.{freshReplica, fits, Typed as TypedReplica}
 use Rattle.replica.proofs.Values.{bytes-of-value, trimmed-bytes, fits-short}

@@ -17,8 +17,8 @@ use Rattle.ledger.specs.declared.ledger.Ledger.{Ledger}
 use Rattle.ledger.specs.Ledgers.{countOf, cellOf, givenOf, receivedOf}
 use Rattle.ledger.specs.Weights.{weightOf}
 use Rattle.ledger.specs.Checks.{mayHold, totalFits, bounded, aboveFloor}
-use Rattle.ledger.specs.Tables.{run, table}
-use Rattle.ledger.proofs.Tables.{table-length}
+use Rattle.quorums.specs.Tables.{run, table}
+use Rattle.quorums.proofs.Tables.{table-length}
 use Rattle.format.specs.Bytes.{bytes, number, series, marks, stands}
 use Rattle.format.specs.Table.{registerMark, register, cells, rowMark, cellMap, row, rowMap, rows, sheet, fieldMap, fieldMapOf, head, note, encodeFields}
 use Rattle.format.proofs.Lengths.{series-length}

@@ -12,8 +12,8 @@ use Rattle.quorums.proofs.Tests.{le-or-lt}
 use Rattle.config.specs.declared.cluster.Config.{Config}
 use Rattle.ledger.specs.declared.ledger.Ledger.{Ledger}
 use Rattle.ledger.specs.Ledgers.{countOf, cellOf, Typed}
-use Rattle.ledger.specs.Tables.{table}
-use Rattle.ledger.proofs.Tables.{table-length, table-at}
+use Rattle.quorums.specs.Tables.{table}
+use Rattle.quorums.proofs.Tables.{table-length, table-at}
 use Rattle.format.specs.Bytes.{number, series, stands, bit}
 use Rattle.format.specs.Table.{cellMap, cells, rowMark, row, rowMap, rows, sheet}
 use Rattle.format.proofs.Lengths.{number-same, series-next}

@@ -16,7 +16,7 @@ use Rattle.ledger.specs.Ledgers.{countOf, cellOf, givenOf, Typed}
 use Rattle.ledger.specs.Checks.{mayHold, cellFits, rowFits, bounded}
 use Rattle.ledger.proofs.Totals.{Placed, bounded-told, told-bounded, may-hold-told, total-fits-told}
 use Rattle.ledger.proofs.Added.{may-hold-placed}
-use Rattle.ledger.proofs.Tables.{is-table}
+use Rattle.quorums.proofs.Tables.{is-table}
 use Rattle.format.specs.Bytes.{number, series, stands, marks, bit}
 use Rattle.format.specs.Table.{rowMark, row, rowMap, rows, sheet}
 use Rattle.format.proofs.Marks.{stands-pos, marks-lt, marks-cut, bit-marks, bit-above}

@@ -9,7 +9,7 @@ use Rattle.config.specs.Cluster.{stampBytes, mostStamp}
 use Rattle.config.specs.declared.cluster.Config.{Config}
 use Rattle.ledger.specs.declared.ledger.Ledger.{Ledger}
 use Rattle.ledger.specs.Checks.{totalFits, aboveFloor}
-use Rattle.ledger.specs.Tables.{table}
+use Rattle.quorums.specs.Tables.{table}
 use Rattle.format.specs.Bytes.{bit}
 use Rattle.replica.specs.Values.{mostValue}
 use Rattle.message.specs.declared.state.Cursor.{Cursor}

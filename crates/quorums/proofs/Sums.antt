@@ -14,6 +14,11 @@ use Rattle.quorums.specs.Sum.{sum, sumIn, size, all}
 pub below-suc : {i n : ℕ} → i < suc n → (i ≡ n) ⊎ (i < n)
 below-suc l = eq-or-lt-of-le (le-of-suc-le-suc l)
 
+-- nothing to add
+pub sum-none : (f : ℕ → ℕ) → sum 0 f ≡ 0
+unfolding sum
+sum-none f = refl
+
 -- one more term, as a definition and as a loop count it
 pub sum-suc : (n : ℕ) (f : ℕ → ℕ) → sum (suc n) f ≡ sum n f + f n
 unfolding sum
@@ -241,3 +246,7 @@ pub all-same : (n : ℕ) (p r : ℕ → Bool) → ((i : ℕ) → i < n → p i �
 unfolding all
 all-same zero p r e = refl
 all-same (suc n) p r e = rw (e n (le-refl (suc n)), all-same n p r (λ i l. e i (omega arith)))
+
+-- a test is passed by all, turn by turn
+pub all-turn : (n : ℕ) (p : ℕ → Bool) (passed t : Bool) → passed ≡ all n p → t ≡ cond (p n) passed false → t ≡ all (n + 1) p
+all-turn n p passed t e h = h ∙ ap (λ x. cond (p n) x false) e ∙ sym (rw add-one (all-suc n p))

@@ -47,6 +47,12 @@ test-false false h = refl
 pub fails : {P : Type 0} (b : Bool) → (b ≡ true) ↔ P → (b ≡ false) ↔ (P → ⊥)
 fails b h = (λ e p. false≢true (sym e ∙ h .1 p), λ n. test-false b (λ t. n (h .0 t)))
 
+-- two tests of which each holds where the other does are one
+pub one-test : (a b : Bool) → (a ≡ true → b ≡ true) → (b ≡ true → a ≡ true) → a ≡ b
+one-test true b to from = sym (to refl)
+one-test false true to from = from refl
+one-test false false to from = refl
+
 -- a test, or one that never holds
 pub or-false : (b : Bool) → b ≡ cond b true false
 or-false true = refl

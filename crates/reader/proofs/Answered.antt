@@ -17,7 +17,7 @@ use Rattle.format.specs.Bytes.{bit}
 use Rattle.ledger.specs.Ledgers.{freshLedger, receivedOf, givenOf, Typed}
 use Rattle.ledger.specs.Maps.{named, mapOf}
 use Rattle.ledger.specs.Weights.{weightAnswer, quorumAnswer}
-use Rattle.ledger.specs.Tables.{table}
+use Rattle.quorums.specs.Tables.{table}
 use Rattle.message.specs.Scans.{headOf, registerOf, scanOf}
 use Rattle.message.specs.declared.state.RegisterRead.{RegisterRead}
 use Rattle.message.specs.declared.answer.Received.{Received}

@@ -7,8 +7,8 @@ use mathlib.Core.List.{List, _++_}
 use lib.ListN.{length, getD, take, drop, replicate, length-append, length-take, length-drop, length-replicate, getD-replicate, List·getD-append}
 use lib.Seq.{length-take-le, getD-append-add, getD-take, getD-drop, ext-getD}
 use Rattle.quorums.proofs.Tests.{le-or-lt}
-use Rattle.ledger.specs.Tables.{table}
-use Rattle.ledger.proofs.Tables.{table-length, table-at, is-table}
+use Rattle.quorums.specs.Tables.{table}
+use Rattle.quorums.proofs.Tables.{table-length, table-at, is-table}
 
 -- ---- a part that comes back
 

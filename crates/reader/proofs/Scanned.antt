@@ -12,7 +12,7 @@ use Rattle.config.specs.declared.cluster.Config.{Config}
 use Rattle.ledger.specs.declared.ledger.Ledger.{Ledger}
 use Rattle.ledger.specs.Ledgers.{receivedOf, givenOf}
 use Rattle.ledger.specs.Checks.{aboveFloor}
-use Rattle.ledger.specs.Tables.{table}
+use Rattle.quorums.specs.Tables.{table}
 use Rattle.format.specs.Bytes.{bit}
 use Rattle.message.specs.declared.state.Cursor.{Cursor}
 use Rattle.message.specs.declared.state.HeadRead.{HeadRead}

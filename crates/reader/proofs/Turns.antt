@@ -13,8 +13,8 @@ use Rattle.config.specs.declared.cluster.Config.{Config}
 use Rattle.ledger.specs.Ledgers.{receivedOf, givenOf}
 use Rattle.ledger.specs.Checks.{totalFits}
 use Rattle.ledger.specs.Sums.{Sums}
-use Rattle.ledger.specs.Tables.{table}
-use Rattle.ledger.proofs.Tables.{table-length, table-same}
+use Rattle.quorums.specs.Tables.{table}
+use Rattle.quorums.proofs.Tables.{table-length, table-same}
 use Rattle.ledger.proofs.Tallies.{Tallied, tally-none, tally-next, tally-all, tally-zeros, zeros-at, bounded, sum-all, sum-most}
 use Rattle.message.specs.declared.state.Cursor.{Cursor}
 use Rattle.message.specs.Cursors.{stay, readNumber, require}

@@ -10,8 +10,8 @@ use Rattle.quorums.specs.Sum.{sum}
 use Rattle.quorums.proofs.Sums.{sum-same, sum-zero, sum-next}
 use Rattle.config.specs.declared.cluster.Config.{Config}
 use Rattle.ledger.specs.Ledgers.{cellOf, receivedOf, givenOf}
-use Rattle.ledger.specs.Tables.{table}
-use Rattle.ledger.proofs.Tables.{is-table, table-at, table-same}
+use Rattle.quorums.specs.Tables.{table}
+use Rattle.quorums.proofs.Tables.{is-table, table-at, table-same}
 use Rattle.format.specs.Bytes.{bit}
 use Rattle.message.specs.declared.state.Cursor.{Cursor}
 use Rattle.message.specs.Scans.{cellsAfter, cellRead, rowCells, rowOf, rowsAfter, cellOfRow, ledgerRead}

@@ -20,7 +20,7 @@ ghost use lib.ListN.{length, replicate};
 ghost use Rattle.config.specs.Cluster.{validOf};
 ghost use Rattle.config.specs.Refusals.{mostRefusal, refusal as refusalOf};
 ghost use Rattle.ledger.specs.Ledgers.{receivedOf, givenOf};
-ghost use Rattle.ledger.specs.Tables.{table};
+ghost use Rattle.quorums.specs.Tables.{table};
 ghost use Rattle.message.specs.Cursors.{require as requireOf};
 ghost use Rattle.message.specs.Scans.{scanOf};
 ghost use Rattle.message.specs.Answers.{check, checkAnswer};

@@ -16,7 +16,7 @@ ghost use lib.ListN.{length, getD, replicate};
 ghost use Rattle.quorums.specs.Sum.{sum};
 ghost use Rattle.config.specs.Cluster.{validOf};
 ghost use Rattle.ledger.specs.Ledgers.{receivedOf, givenOf};
-ghost use Rattle.ledger.specs.Tables.{table};
+ghost use Rattle.quorums.specs.Tables.{table};
 ghost use Rattle.message.specs.Scans.{cellsAfter, cellRead, cellMapOf, rowCells, rowOf, rowsAfter, ledgerRead, sheetOf};
 ghost use Rattle.ledger.specs.Sums.{Sums};
 

@@ -12,9 +12,9 @@ use borrow.Author.Tests.{eq-eqb, ne-eqb, eqb-true, lt-ltb, le-ltb, leb-true, le-
 use Rattle.quorums.specs.Sum.{all}
 use Rattle.quorums.proofs.Tests.{le-or-lt, both}
 use Rattle.quorums.proofs.Sums.{all-each, each-all}
-use Rattle.ledger.specs.Tables.{run, table}
+use Rattle.quorums.specs.Tables.{run, table}
 use Rattle.ledger.proofs.Fresh.{zeros}
-use Rattle.ledger.proofs.Tables.{table-at, table-length, table-same, is-table}
+use Rattle.quorums.proofs.Tables.{table-at, table-length, table-same, is-table}
 use Rattle.replica.specs.declared.value.Value.{Value}
 use Rattle.replica.specs.Values.{mostValue, valueFits, bytesOf, valueOf, emptyValue, trimmed, sameByte, sameAt, same, Typed}
 

@@ -6,7 +6,7 @@ use mathlib.Core.List.{List}
 use lib.Dec.{eqb, ltb, leb}
 use lib.ListN.{length, getD, replicate}
 use Rattle.quorums.specs.Sum.{all}
-use Rattle.ledger.specs.Tables.{table}
+use Rattle.quorums.specs.Tables.{table}
 use Rattle.replica.specs.declared.value.Value.{Value}
 
 -- the most bytes that a value has

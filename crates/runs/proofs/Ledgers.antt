@@ -23,7 +23,7 @@ use Rattle.format.proofs.Same.{SameSheet}
 use Rattle.config.specs.Cluster.{validOf, startOf, aboveOf, mostWeight}
 use Rattle.config.specs.declared.cluster.Config.{Config}
 use Rattle.config.proofs.Clusters.{valid-bounds}
-use Rattle.ledger.specs.Tables.{run, table}
+use Rattle.quorums.specs.Tables.{run, table}
 use Rattle.ledger.specs.Ledgers.{freshLedger, countOf, cellOf, givenOf, receivedOf, accountsOf, Typed}
 use Rattle.ledger.specs.Maps.{named}
 use Rattle.ledger.specs.Weights.{weightOf, allOf, marginOf, quorumOf}
@@ -31,7 +31,7 @@ use Rattle.ledger.specs.Checks.{mayHold, totalFits, cellFits, rowFits, serverAb
 use Rattle.ledger.specs.Joins.{agree, agreeAt, laterAt, largerAt, joins, joined, lacks}
 use Rattle.ledger.specs.Changes.{added}
 use Rattle.ledger.proofs.Answers.{quorum-margin}
-use Rattle.ledger.proofs.Tables.{table-length, table-at, table-same, is-table}
+use Rattle.quorums.proofs.Tables.{table-length, table-at, table-same, is-table}
 use Rattle.ledger.proofs.Totals.{told-bounded}
 use Rattle.ledger.proofs.Added.{may-hold-placed}
 use Rattle.ledger.proofs.Unions.{same-ledger, later-first, later-second}

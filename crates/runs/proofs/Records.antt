@@ -6,7 +6,7 @@ use mathlib.Core.Path.{_≡_}
 use mathlib.Core.Bool.{cond}
 use mathlib.Core.List.{List, [], _∷_, map}
 use Rattle.config.specs.declared.cluster.Config.{Config}
-use Rattle.ledger.specs.Tables.{table}
+use Rattle.quorums.specs.Tables.{table}
 use Rattle.ledger.specs.declared.ledger.Ledger.{Ledger}
 use Rattle.replica.specs.declared.register.Register.{Register}
 use Rattle.replica.specs.declared.replica.Replica.{Replica}

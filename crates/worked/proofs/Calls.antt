@@ -15,7 +15,7 @@ use Rattle.ledger.specs.Ledgers.{freshLedger, givenOf, receivedOf}
 use Rattle.ledger.specs.Weights.{weightOf}
 use Rattle.ledger.specs.Checks.{mayHold, totalFits, bounded, aboveFloor}
 use Rattle.ledger.specs.Changes.{lawful, spares, added}
-use Rattle.ledger.specs.Tables.{run, table}
+use Rattle.quorums.specs.Tables.{run, table}
 use Rattle.format.specs.Bytes.{bytes, number, series, stands, marks}
 use Rattle.format.specs.Table.{registerMark, register, cellMap, cells, rowMark, row, rowMap, rows, sheet, fieldMap, fieldMapOf, head, note, encodeFields}
 use Rattle.message.specs.Envelopes.{messageOf}

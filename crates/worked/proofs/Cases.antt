@@ -21,7 +21,7 @@ use Rattle.ledger.specs.Ledgers.{freshLedger, countOf, cellOf, givenOf, receive
 use Rattle.ledger.specs.Maps.{named, mapOf}
 use Rattle.ledger.specs.Weights.{weightOf, marginOf, quorumAnswer}
 use Rattle.ledger.specs.Checks.{mayHold, totalFits, bounded, aboveFloor}
-use Rattle.ledger.specs.Tables.{run, table}
+use Rattle.quorums.specs.Tables.{run, table}
 use Rattle.ledger.specs.Joins.{agree, later, joins, joined, joinAnswer}
 use Rattle.ledger.specs.Changes.{lawful, spares, added}
 use Rattle.ledger.proofs.Kept.{added-typed}

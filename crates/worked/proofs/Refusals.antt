@@ -21,7 +21,7 @@ use Rattle.ledger.specs.Ledgers.{freshLedger, givenOf, receivedOf, refused, acc
 use Rattle.ledger.specs.Maps.{named, mapOf, namedAnswer}
 use Rattle.ledger.specs.Weights.{weightOf, marginOf, givenAnswer, receivedAnswer, weightAnswer, quorumAnswer}
 use Rattle.ledger.specs.Checks.{mayHold, totalFits, bounded, aboveFloor, fits, floorAnswer, checkAnswer}
-use Rattle.ledger.specs.Tables.{run, table}
+use Rattle.quorums.specs.Tables.{run, table}
 use Rattle.ledger.specs.Joins.{agree, later, joins, joined, joinAnswer}
 use Rattle.ledger.specs.Changes.{lawful, spares, added, giveAnswer, addAnswer}
 

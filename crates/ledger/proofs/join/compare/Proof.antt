@@ -10,7 +10,8 @@ use Rattle.quorums.proofs.Sums.{all-none, all-next, all-fails}
 use Rattle.ledger.specs.declared.ledger.Ledger.{Ledger}
 use Rattle.ledger.specs.Ledgers.{ledgerOf}
 use Rattle.ledger.specs.Joins.{rowAgreesAt, hasAt, rowsCompared}
-use Rattle.ledger.proofs.Rows.{all-turn, row-compared}
+use Rattle.quorums.proofs.Sums.{all-turn}
+use Rattle.ledger.proofs.Rows.{row-compared}
 use Rattle.ledger.proofs.join.compare.Statement.{statement}
 use Rattle.ledger.proofs.join.compare.Tie as tie
 

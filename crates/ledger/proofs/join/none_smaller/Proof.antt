@@ -7,7 +7,7 @@ use lib.Dec.{leb}
 use lib.ListN.{getD}
 use Rattle.quorums.specs.Sum.{all}
 use Rattle.quorums.proofs.Sums.{all-none}
-use Rattle.ledger.proofs.Rows.{all-turn}
+use Rattle.quorums.proofs.Sums.{all-turn}
 use Rattle.ledger.proofs.join.none_smaller.Statement.{statement}
 use Rattle.ledger.proofs.join.none_smaller.Tie as tie
 

@@ -4,7 +4,7 @@ use native.Mathlib.Omega.{arith}
 use mathlib.Core.Path.{_≡_, refl, sym, _∙_}
 use borrow.Author.Needs.{needs}
 use lib.ListN.{length, getD, length-set}
-use Rattle.ledger.proofs.Tables.{is-table, filled-next}
+use Rattle.quorums.proofs.Tables.{is-table, filled-next}
 use Rattle.ledger.proofs.Unions.{later-first, later-second}
 use Rattle.ledger.proofs.join.take_row.Statement.{statement}
 use Rattle.ledger.proofs.join.take_row.Tie as tie

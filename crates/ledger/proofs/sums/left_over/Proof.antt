@@ -7,7 +7,7 @@ use lib.ListN.{getD}
 use Rattle.quorums.specs.Sum.{sum}
 use Rattle.ledger.specs.Ledgers.{ledgerOf}
 use Rattle.ledger.specs.Sums.{receivedFrom, beyondFrom}
-use Rattle.ledger.proofs.Tables.{table-at}
+use Rattle.quorums.proofs.Tables.{table-at}
 use Rattle.ledger.proofs.Faults.{beyond-start, beyond-next}
 use Rattle.ledger.proofs.sums.left_over.Statement.{statement}
 use Rattle.ledger.proofs.sums.left_over.Tie as tie

@@ -4,7 +4,7 @@ use native.Mathlib.Omega.{arith}
 use mathlib.Core.Path.{sym, ap, _∙_}
 use borrow.Author.Needs.{needs}
 use lib.ListN.{length}
-use Rattle.ledger.proofs.Tables.{table-same}
+use Rattle.quorums.proofs.Tables.{table-same}
 use Rattle.ledger.proofs.Tallies.{tally-none, tally-zeros}
 use Rattle.message.specs.Scans.{RowRead}
 use Rattle.reader.proofs.Steps.{row-count, row-cell}

@@ -5,7 +5,7 @@ use native.Mathlib.Omega.{arith}
 use mathlib.Core.Path.{sym, ap, _∙_}
 use borrow.Author.Needs.{needs}
 use lib.ListN.{length, length-set, length-replicate}
-use Rattle.ledger.proofs.Tables.{table-length}
+use Rattle.quorums.proofs.Tables.{table-length}
 use Rattle.reader.proofs.Rows.{row-blank}
 use Rattle.reader.proofs.Turns.{RowsSoFar, rows-start, rows-inside, rows-small, rows-turn, rows-clean, rows-stop, rows-none, rows-done, RowsTaken, taken-start, taken-turn, taken-all}
 use Rattle.reader.proofs.take.take_rows.Statement.{statement}

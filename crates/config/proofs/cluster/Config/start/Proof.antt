@@ -14,12 +14,27 @@ returns : tie.Need-returns
 unfolding startAnswer
 returns c = simp (sym (c .before .has .ensures) ∙ not-true _ (c .if1 .taken))
 
-start-at-requires : tie.Need-start-at-requires
-start-at-requires c κs = search needs
+lawful-requires : tie.Need-lawful-requires
+lawful-requires c κs = search needs
 
 returns-2 : tie.Need-returns-2
 unfolding startAnswer
-returns-2 c = simp (sym (c .before .before .has .ensures) ∙ not-false _ (c .before .if1 .left)) (ap Number.Value (c .start-at .ensures))
+returns-2 c =
+    simp
+    (sym (c .before .before .before .has .ensures) ∙ not-false _ (c .before .before .if1 .left),
+    sym (c .before .lawful .ensures) ∙ not-true _ (c .if2 .taken))
+
+start-at-requires : tie.Need-start-at-requires
+start-at-requires c κs = search needs
+
+returns-3 : tie.Need-returns-3
+unfolding startAnswer
+returns-3 c =
+    simp
+    (sym (c .before .before .before .before .has .ensures) ∙ not-false _ (c .before .before .before .if1 .left),
+    sym (c .before .before .lawful .ensures) ∙ not-false _ (c .before .if2 .left))
+    (ap Number.Value (c .start-at .ensures))
 
 pub start-spec : {M : Type 1} → statement M
-start-spec = tie.close (tie.spec has-requires returns start-at-requires returns-2)
+start-spec =
+    tie.close (tie.spec has-requires returns lawful-requires returns-2 start-at-requires returns-3)

@@ -9,7 +9,7 @@ use denote.Ref.{now}
 use lib.ListN.{length, getD, length-set, getD-replicate, List·getD-eq-default}
 use lib.Seq.{getD-set-other}
 use Rattle.quorums.proofs.Tests.{le-or-lt}
-use Rattle.ledger.proofs.Tables.{is-table, filled-next}
+use Rattle.quorums.proofs.Tables.{is-table, filled-next}
 use Rattle.replica.specs.declared.value.Value.{Value}
 use Rattle.replica.specs.Values.{valueOf}
 use Rattle.replica.proofs.value.Value.of.Statement.{statement}

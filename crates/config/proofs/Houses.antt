@@ -1,0 +1,210 @@
+-- What a call is given and what is kept of it: the same start weights, the same W, and the same number for what is wrong; and what a level house comes to.
+use Prim.Native.Nat.{ℕ, _+_, _-_, _*_, _≤_, _<_}
+use native.Mathlib.Omega.{arith}
+use mathlib.Core.Path.{_≡_, refl, sym, ap, _∙_}
+use mathlib.Core.Logic.{⊎-elim}
+use mathlib.Core.Bool.{Bool, true, false, cond}
+use borrow.Author.Tests.{le-leb, leb-true, lt-ltb, le-ltb, ltb-true, eq-eqb, ne-eqb, eqb-true}
+use lib.Dec.{eqb, leb, ltb}
+use lib.IntN.{pos}
+use lib.ListN.{length, getD, replicate, length-replicate, getD-replicate, List·getD-eq-default}
+use Rattle.quorums.specs.Difference.{difference}
+use Rattle.quorums.specs.Sum.{sum, all}
+use Rattle.quorums.specs.Accounts.{above}
+use Rattle.quorums.proofs.Sums.{sum-const, sum-rest, sum-same, all-each, each-all}
+use Rattle.quorums.proofs.Tables.{table-at}
+use Rattle.quorums.proofs.Tests.{le-or-lt, one-test, both}
+use Rattle.quorums.proofs.Differences.{pos-difference}
+use Rattle.quorums.proofs.Weights.{above-is}
+use Rattle.config.specs.declared.cluster.Config.{Config}
+use Rattle.config.specs.Answers.{configAnswer}
+use Rattle.config.specs.Cluster.{House, noConfig, level, inBounds, validOf, startOf, totalOf, aboveOf, endsOf, startsAbove, lawfulOf, clusterFault, lawfulList, houseFault, keeps, keptOf, configOf}
+use Rattle.config.proofs.Clusters.{Lawful, valid-bounds, bounds-valid, lawful-told, told-lawful, start-above}
+
+-- entry i of the list, and W
+abbrev entry : House → ℕ → ℕ
+entry h i = getD (h .starts) i 0
+
+abbrev weight : House → ℕ
+weight h = sum (h .n) (entry h)
+
+-- ---- what the tests of a list say
+
+pub record Listed (h : House) : Type 0 where
+  pub long : length (h .starts) ≡ h .n
+  pub small : weight h ≤ 16000
+  pub each-above : (i : ℕ) → i < h .n → above (h .n) (h .f) (weight h) (pos (entry h i)) ≡ true
+
+pub list-told : (h : House) → lawfulList h ≡ true → Listed h
+unfolding lawfulList
+list-told h e =
+    let x = both (eqb (length (h .starts)) (h .n)) _ e in
+    let y = both (leb (weight h) 16000) _ (x .1) in
+    record { long = eqb-true _ _ (x .0); small = leb-true _ _ (y .0); each-above = all-each (h .n) (λ i. above (h .n) (h .f) (weight h) (pos (entry h i))) (y .1) }
+
+pub told-list : (h : House) → Listed h → lawfulList h ≡ true
+unfolding lawfulList
+told-list h l = rw (eq-eqb _ _ (l .long), le-leb _ _ (l .small)) (each-all (h .n) (λ i. above (h .n) (h .f) (weight h) (pos (entry h i))) (l .each-above))
+
+-- no entry is above the sum
+entry-small : (h : House) → weight h ≤ 16000 → (i : ℕ) → i < h .n → entry h i ≤ 16000
+entry-small h s i l = omega (arith, sum-rest (h .n) (λ k. 0) (entry h) (λ k b. omega arith) i l, sum-const (h .n) 0)
+
+-- ---- what is kept
+
+record Kept (h : House) : Type 0 where
+  long : length (h .starts) ≡ h .n
+  few : h .n ≤ 16
+
+kept-told : (h : House) → keeps (h .n) (h .starts) ≡ true → Kept h
+unfolding keeps
+kept-told h e =
+    let x = both (eqb (length (h .starts)) (h .n)) _ e in
+    let y = both (leb (h .n) 16) _ (x .1) in
+    record { long = eqb-true _ _ (x .0); few = leb-true _ _ (y .0) }
+
+told-kept : (h : House) → Kept h → ((i : ℕ) → i < h .n → entry h i ≤ 16000) → keeps (h .n) (h .starts) ≡ true
+unfolding keeps
+told-kept h k each =
+    rw (eq-eqb _ _ (k .long), le-leb _ _ (k .few)) (each-all (h .n) (λ i. leb (entry h i) 16000) (λ i l. le-leb _ _ (each i l)))
+
+start-kept : (h : House) → keeps (h .n) (h .starts) ≡ true → (i : ℕ) → i < 16 → startOf (configOf h) i ≡ entry h i
+unfolding startOf keptOf
+start-kept h k i l = rw k (table-at 16 (entry h) i l)
+
+start-blank : (h : House) → keeps (h .n) (h .starts) ≡ false → (i : ℕ) → i < 16 → startOf (configOf h) i ≡ 0
+unfolding startOf keptOf
+start-blank h k i l = rw k (getD-replicate 16 i 0 0 l)
+
+total-kept : (h : House) → keeps (h .n) (h .starts) ≡ true → totalOf (configOf h) ≡ weight h
+unfolding totalOf
+total-kept h k = sum-same (h .n) (startOf (configOf h)) (entry h) (λ i l. start-kept h k i (omega (arith, kept-told h k .few)))
+
+above-kept : (h : House) → keeps (h .n) (h .starts) ≡ true → (i : ℕ) → i < h .n → aboveOf (configOf h) (pos (startOf (configOf h) i)) ≡ above (h .n) (h .f) (weight h) (pos (entry h i))
+unfolding aboveOf
+above-kept h k i l = rw (total-kept h k, start-kept h k i (omega (arith, kept-told h k .few))) refl
+
+ends-kept : (h : House) → keeps (h .n) (h .starts) ≡ true → endsOf (configOf h) ≡ true
+unfolding endsOf
+ends-kept h k =
+    each-all 16 (λ i. cond (ltb i (h .n)) true (eqb (startOf (configOf h) i) 0))
+    (λ i l.
+    ⊎-elim
+    (λ (b : h .n ≤ i).
+    let past : entry h i ≡ 0 = List·getD-eq-default (h .starts) 0 (omega (arith, kept-told h k .long)) in
+    rw (le-ltb i (h .n) b) (eq-eqb _ _ (start-kept h k i l ∙ past)))
+    (λ (b : i < h .n). rw (lt-ltb i (h .n) b) refl)
+    (le-or-lt (h .n) i))
+
+-- nothing but zeros is not lawful: 0 is not above the floor
+blank-fails : (h : House) → keeps (h .n) (h .starts) ≡ false → lawfulOf (configOf h) ≡ true → ⊥
+unfolding aboveOf
+blank-fails h k e =
+    let b = valid-bounds (configOf h) (lawful-told (configOf h) e .valid) in
+    let up = start-above (configOf h) 0 e (omega (arith, b .some)) in
+    let zero = start-blank h k 0 (omega arith) in
+    let k2 = 2 * (h .n - h .f) in
+    let low = ltb-true (0 * k2 + totalOf (configOf h)) (startOf (configOf h) 0 * k2) (sym (above-is (h .n) (h .f) (totalOf (configOf h)) (startOf (configOf h) 0) 0) ∙ up) in
+    let none : startOf (configOf h) 0 * k2 ≡ 0 = rw zero (omega arith) in
+    omega (arith, low, none)
+
+-- ---- the start weights kept are lawful exactly where the list is
+
+pub given-lawful : (h : House) → inBounds (h .n) (h .f) ≡ true → lawfulOf (configOf h) ≡ lawfulList h
+unfolding validOf startsAbove
+given-lawful h v = one-test (lawfulOf (configOf h)) (lawfulList h) to from
+  where
+    to : lawfulOf (configOf h) ≡ true → lawfulList h ≡ true
+    to e = by-keeps (keeps (h .n) (h .starts)) refl
+      where
+        by-keeps : (t : Bool) → keeps (h .n) (h .starts) ≡ t → lawfulList h ≡ true
+        by-keeps true k =
+            let l = lawful-told (configOf h) e in
+            told-list h (record {
+              long = kept-told h k .long;
+              small = omega (arith, l .small, total-kept h k);
+              each-above = λ i b. sym (above-kept h k i b) ∙ all-each (h .n) (λ j. aboveOf (configOf h) (pos (startOf (configOf h) j))) (l .each-above) i b;
+            })
+        by-keeps false k = absurd (blank-fails h k e)
+    from : lawfulList h ≡ true → lawfulOf (configOf h) ≡ true
+    from e =
+        let l = list-told h e in
+        let k = told-kept h (record { long = l .long; few = valid-bounds (configOf h) v .most }) (entry-small h (l .small)) in
+        told-lawful (configOf h) (record {
+          valid = v;
+          ends = ends-kept h k;
+          small = omega (arith, l .small, total-kept h k);
+          each-above = each-all (h .n) (λ j. aboveOf (configOf h) (pos (startOf (configOf h) j))) (λ i b. above-kept h k i b ∙ l .each-above i b);
+        })
+
+-- What is wrong with what is kept is what is wrong with what was given.
+pub given-fault : (h : House) → clusterFault (configOf h) ≡ houseFault h
+unfolding clusterFault houseFault validOf
+given-fault h = by-bounds (inBounds (h .n) (h .f)) refl
+  where
+    by-bounds : (t : Bool) → inBounds (h .n) (h .f) ≡ t → _≡_ {A = ℕ} (cond t (cond (lawfulOf (configOf h)) 0 15) 1) (cond t (cond (lawfulList h) 0 15) 1)
+    by-bounds true v = rw (given-lawful h v) refl
+    by-bounds false v = refl
+
+-- the answer of a call that is given a house
+pub house-refused : (h : House) (k : ℕ) (x : Config) → k ≡ houseFault h → (k ≡ 0 → ⊥) → x ≡ noConfig → record { number = k; config = x } ≡ configAnswer h
+unfolding configAnswer
+house-refused h k x is some none = rw (none, sym is, ne-eqb k 0 some) refl
+
+pub house-taken : (h : House) (k : ℕ) (x : Config) → k ≡ houseFault h → k ≡ 0 → x ≡ configOf h → record { number = k; config = x } ≡ configAnswer h
+unfolding configAnswer
+house-taken h k x is zero kept = rw (kept, sym is, eq-eqb k 0 zero) refl
+
+-- ---- a lawful house
+
+pub record Housed (h : House) : Type 0 where
+  pub lawful : lawfulOf (configOf h) ≡ true
+  pub list : Listed h
+  pub starts : (i : ℕ) → i < 16 → startOf (configOf h) i ≡ getD (h .starts) i 0
+
+pub house-told : (h : House) → houseFault h ≡ 0 → Housed h
+unfolding houseFault
+house-told h e = by-bounds (inBounds (h .n) (h .f)) refl
+  where
+    by-list : (t : Bool) → lawfulList h ≡ t → inBounds (h .n) (h .f) ≡ true → Housed h
+    by-list true l v =
+        let x = list-told h l in
+        let k = told-kept h (record { long = x .long; few = leb-true _ _ (both (leb (h .n) 16) _ (both (leb 1 (h .n)) _ v .1) .0) }) (entry-small h (x .small)) in
+        record { lawful = given-lawful h v ∙ l; list = x; starts = start-kept h k }
+    by-list false l v = absurd (omega (arith, rw (v, l) at e))
+    by-bounds : (t : Bool) → inBounds (h .n) (h .f) ≡ t → Housed h
+    by-bounds true v = by-list (lawfulList h) refl v
+    by-bounds false v = absurd (omega (arith, rw v at e))
+
+-- ---- a level house
+
+module _ (n f : ℕ) (v : inBounds n f ≡ true) where
+  level-entry : (i : ℕ) → i < n → entry (level n f) i ≡ 1000
+  level-entry i l = getD-replicate n i 1000 0 l
+
+  level-weight : weight (level n f) ≡ n * 1000
+  level-weight = sum-same n (entry (level n f)) (λ i. 1000) level-entry ∙ sum-const n 1000
+
+  -- it is lawful, because 2f < n
+  pub level-fault : houseFault (level n f) ≡ 0
+  unfolding houseFault validOf
+  level-fault =
+      let b = valid-bounds (configOf (level n f)) v in
+      let up : (i : ℕ) → i < n → above n f (weight (level n f)) (pos (entry (level n f) i)) ≡ true =
+          λ i l.
+          let more : 0 * (2 * (n - f)) + n * 1000 < 1000 * (2 * (n - f)) = omega (arith, b .crash, b .some) in
+          rw (level-entry i l, level-weight, pos-difference 1000) (above-is n f (n * 1000) 1000 0 ∙ lt-ltb _ _ more) in
+      let l = told-list (level n f) (record { long = length-replicate n 1000; small = omega (arith, level-weight, b .most); each-above = up }) in
+      rw (v, l) refl
+
+  pub level-lawful : lawfulOf (configOf (level n f)) ≡ true
+  level-lawful = house-told (level n f) level-fault .lawful
+
+  -- each server starts at 1,000, and W is 1,000 × n
+  pub level-start : (i : ℕ) → i < n → startOf (configOf (level n f)) i ≡ 1000
+  unfolding validOf
+  level-start i l = house-told (level n f) level-fault .starts i (omega (arith, valid-bounds (configOf (level n f)) v .most)) ∙ level-entry i l
+
+  pub level-total : totalOf (configOf (level n f)) ≡ n * 1000
+  unfolding totalOf
+  level-total = sum-same n (startOf (configOf (level n f))) (λ i. 1000) level-start ∙ sum-const n 1000
