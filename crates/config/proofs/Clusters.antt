@@ -178,31 +178,33 @@ lawful-fit c v = one-test (allFit c S) (lawfulOf c) to from
   where
     S : ℕ
     S = sum 16 (startOf c)
+
     to : allFit c S ≡ true → lawfulOf c ≡ true
     to e =
         let x = both (leb S 16000) (all 16 (fitAt c S)) e in
         let each = all-each 16 (fitAt c S) (x .1) in
         let ends : endsOf c ≡ true =
-            each-all 16 (endAt c)
-            (λ i l.
-            ⊎-elim (λ (h : c .n ≤ i). let here = each i l in rw (le-ltb i (c .n) h) (rw (le-ltb i (c .n) h) at here))
-            (λ (h : i < c .n). rw (lt-ltb i (c .n) h) refl)
-            (le-or-lt (c .n) i)) in
+        each-all 16 (endAt c)
+        (λ i l.
+        ⊎-elim (λ (h : c .n ≤ i). let here = each i l in rw (le-ltb i (c .n) h) (rw (le-ltb i (c .n) h) at here))
+        (λ (h : i < c .n). rw (lt-ltb i (c .n) h) refl)
+        (le-or-lt (c .n) i)) in
         let same = total-all c v ends in
         let above : (i : ℕ) → i < c .n → aboveOf c (pos (startOf c i)) ≡ true =
-            λ i l. let here = each i (omega (arith, valid-bounds c v .most)) in start-least c i v ∙ (rw (lt-ltb i (c .n) l, same) at here) in
+        λ i l. let here = each i (omega (arith, valid-bounds c v .most)) in start-least c i v ∙ (rw (lt-ltb i (c .n) l, same) at here) in
         told-lawful c (record { valid = v; ends = ends; small = omega (arith, leb-true S 16000 (x .0), same); each-above = each-all (c .n) _ above })
+
     from : lawfulOf c ≡ true → allFit c S ≡ true
     from e =
         let l = lawful-told c e in
         let same = total-all c v (l .ends) in
         let few : S ≤ 16000 = omega (arith, same, l .small) in
         let each : (i : ℕ) → i < 16 → fitAt c S i ≡ true =
-            λ i h.
-            ⊎-elim (λ (b : c .n ≤ i). let here = all-each 16 (endAt c) (l .ends) i h in rw (le-ltb i (c .n) b) (rw (le-ltb i (c .n) b) at here))
-            (λ (b : i < c .n).
-            rw (lt-ltb i (c .n) b, same) (sym (start-least c i v) ∙ all-each (c .n) (λ k. aboveOf c (pos (startOf c k))) (l .each-above) i b))
-            (le-or-lt (c .n) i) in
+        λ i h.
+        ⊎-elim (λ (b : c .n ≤ i). let here = all-each 16 (endAt c) (l .ends) i h in rw (le-ltb i (c .n) b) (rw (le-ltb i (c .n) b) at here))
+        (λ (b : i < c .n).
+        rw (lt-ltb i (c .n) b, same) (sym (start-least c i v) ∙ all-each (c .n) (λ k. aboveOf c (pos (startOf c k))) (l .each-above) i b))
+        (le-or-lt (c .n) i) in
         rw (le-leb S 16000 few) (each-all 16 (fitAt c S) each)
 
 -- ---- answers
@@ -229,6 +231,7 @@ told-refused c x r e = by-valid (validOf c) refl
     by-lawful : (t : Bool) → lawfulOf c ≡ t → validOf c ≡ true → (lawfulOf c ≡ false) × (r ≡ refusal (clusterFault c))
     by-lawful true l v = absurd (value-not-refused x r (rw (v, l) at e))
     by-lawful false l v = let z = rw (v, l) at e in (l, rw (v, l) (cc z))
+
     by-valid : (t : Bool) → validOf c ≡ t → (lawfulOf c ≡ false) × (r ≡ refusal (clusterFault c))
     by-valid true v = by-lawful (lawfulOf c) refl v
     by-valid false v = let z = rw v at e in (not-lawful c v, rw v (cc z))

@@ -49,8 +49,8 @@ module _ (n : ℕ) (starts : List ℕ) where
   unfolding keeps keptOf
   filled-all kept x =
       let yes : keeps n starts ≡ true =
-          rw (eq-eqb (length starts) n (x .long), le-leb n 16 (x .few))
-          (each-all n (λ k. leb (getD starts k 0) 16000) (λ k l. le-leb (getD starts k 0) 16000 (x .small k l))) in
+      rw (eq-eqb (length starts) n (x .long), le-leb n 16 (x .few))
+      (each-all n (λ k. leb (getD starts k 0) 16000) (λ k l. le-leb (getD starts k 0) 16000 (x .small k l))) in
       rw yes
       (is-table 16 (λ k. getD starts k 0) kept (x .size)
       (λ k l.

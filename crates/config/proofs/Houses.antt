@@ -126,6 +126,7 @@ given-lawful h v = one-test (lawfulOf (configOf h)) (lawfulList h) to from
               each-above = λ i b. sym (above-kept h k i b) ∙ all-each (h .n) (λ j. aboveOf (configOf h) (pos (startOf (configOf h) j))) (l .each-above) i b;
             })
         by-keeps false k = absurd (blank-fails h k e)
+
     from : lawfulList h ≡ true → lawfulOf (configOf h) ≡ true
     from e =
         let l = list-told h e in
@@ -172,6 +173,7 @@ house-told h e = by-bounds (inBounds (h .n) (h .f)) refl
         let k = told-kept h (record { long = x .long; few = leb-true _ _ (both (leb (h .n) 16) _ (both (leb 1 (h .n)) _ v .1) .0) }) (entry-small h (x .small)) in
         record { lawful = given-lawful h v ∙ l; list = x; starts = start-kept h k }
     by-list false l v = absurd (omega (arith, rw (v, l) at e))
+
     by-bounds : (t : Bool) → inBounds (h .n) (h .f) ≡ t → Housed h
     by-bounds true v = by-list (lawfulList h) refl v
     by-bounds false v = absurd (omega (arith, rw v at e))
@@ -191,9 +193,9 @@ module _ (n f : ℕ) (v : inBounds n f ≡ true) where
   level-fault =
       let b = valid-bounds (configOf (level n f)) v in
       let up : (i : ℕ) → i < n → above n f (weight (level n f)) (pos (entry (level n f) i)) ≡ true =
-          λ i l.
-          let more : 0 * (2 * (n - f)) + n * 1000 < 1000 * (2 * (n - f)) = omega (arith, b .crash, b .some) in
-          rw (level-entry i l, level-weight, pos-difference 1000) (above-is n f (n * 1000) 1000 0 ∙ lt-ltb _ _ more) in
+      λ i l.
+      let more : 0 * (2 * (n - f)) + n * 1000 < 1000 * (2 * (n - f)) = omega (arith, b .crash, b .some) in
+      rw (level-entry i l, level-weight, pos-difference 1000) (above-is n f (n * 1000) 1000 0 ∙ lt-ltb _ _ more) in
       let l = told-list (level n f) (record { long = length-replicate n 1000; small = omega (arith, level-weight, b .most); each-above = up }) in
       rw (v, l) refl
 

@@ -101,7 +101,7 @@ impl Config {
 
     // The same with no test, and 0 where there is no such server, for loops over the servers of a cluster that has passed.
     pub fn start_at(self, server: u64) -> u64
-        ensures { λ r. ⌜ r ≡ startOf self server ⌝ }
+        ensures { λ r. ⌜ (r ≡ startOf self server) × (r ≤ 65535) ⌝ }
     {
         start_in(&self.starts, server)
     }
@@ -159,7 +159,7 @@ fn at_least(weight: i64, least: u64) -> Decision
 // One of 16 start weights, or 0.
 fn start_in(starts: &[u16], server: u64) -> u64
     requires { ⌜ length (now starts) ≡ 16 ⌝ }
-    ensures { λ r. ⌜ r ≡ getD (now (starts .entry)) server 0 ⌝ }
+    ensures { λ r. ⌜ (r ≡ getD (now (starts .entry)) server 0) × (r ≤ 65535) ⌝ }
 {
     if MOST_SERVERS <= server {
         return 0;

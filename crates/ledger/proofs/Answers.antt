@@ -15,7 +15,7 @@ use Rattle.quorums.proofs.Tests.{chosen-first}
 use Rattle.quorums.proofs.Sums.{sumIn-set, all-each}
 use Rattle.quorums.proofs.Differences.{pos-less, difference-mag}
 use Rattle.quorums.proofs.Weights.{weightIn-is, margin-is}
-use Rattle.config.specs.Cluster.{validOf, totalOf}
+use Rattle.config.specs.Cluster.{validOf, lawfulOf, totalOf}
 use Rattle.config.proofs.Clusters.{valid-bounds}
 use Rattle.config.specs.declared.cluster.Config.{Config}
 use Rattle.config.specs.declared.answer.Refusal.{Refusal}
@@ -75,10 +75,13 @@ pub signed-not-refused : (x : ℤ) (r : Refusal) → Signed.Value x ≡ Signed.R
 signed-not-refused x r e = let z : _≡_ {A = ℕ} 0 1 = cc in omega arith
 
 -- what an answer of `quorum` tells
-pub quorum-number : (c : Config) (l : Ledger) (m : ℕ) (y : ℤ) → quorumAnswer c l m ≡ Signed.Value y → (mapOf c m ≡ true) × (y ≡ marginOf c l m)
+pub quorum-number : (c : Config) (l : Ledger) (m : ℕ) (y : ℤ) → quorumAnswer c l m ≡ Signed.Value y → (mapOf c m ≡ true) × (lawfulOf c ≡ true) × (y ≡ marginOf c l m)
 unfolding quorumAnswer
-quorum-number c l m y e = let t = chosen-first (mapOf c m) _ _ _ (λ d. signed-not-refused _ _ (sym d)) e in (t .0, cc)
+quorum-number c l m y e =
+    let t = chosen-first (mapOf c m) _ _ _ (λ d. signed-not-refused _ _ (sym d)) e in
+    let v = chosen-first (lawfulOf c) _ _ _ (λ d. signed-not-refused _ _ (sym d)) (t .1) in
+    (t .0, v .0, cc (v .1))
 
-pub told-quorum : (c : Config) (l : Ledger) (m : ℕ) → mapOf c m ≡ true → quorumAnswer c l m ≡ Signed.Value (marginOf c l m)
+pub told-quorum : (c : Config) (l : Ledger) (m : ℕ) → mapOf c m ≡ true → lawfulOf c ≡ true → quorumAnswer c l m ≡ Signed.Value (marginOf c l m)
 unfolding quorumAnswer
-told-quorum c l m e = simp e
+told-quorum c l m e v = simp (e, v)

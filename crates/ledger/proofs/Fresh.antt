@@ -10,7 +10,7 @@ use Rattle.quorums.specs.Accounts.{weight}
 use Rattle.quorums.proofs.Tests.{le-or-lt}
 use Rattle.quorums.proofs.Sums.{each-all, sum-zero}
 use Rattle.quorums.proofs.Differences.{difference-same}
-use Rattle.config.specs.Cluster.{validOf, startOf, aboveOf}
+use Rattle.config.specs.Cluster.{lawfulOf, startOf, aboveOf}
 use Rattle.config.specs.declared.cluster.Config.{Config}
 use Rattle.config.proofs.Clusters.{start-above}
 use Rattle.ledger.specs.Ledgers.{freshLedger, countOf, cellOf, givenOf, receivedOf, Typed}
@@ -57,6 +57,6 @@ pub fresh-weight : (c : Config) (i : ℕ) → weightOf c freshLedger i ≡ diffe
 unfolding weightOf weight
 fresh-weight c i = difference-same _ _ _ _ (omega (arith, fresh-given i, fresh-received i))
 
-pub fresh-above : (c : Config) → validOf c ≡ true → aboveFloor c freshLedger ≡ true
+pub fresh-above : (c : Config) → lawfulOf c ≡ true → aboveFloor c freshLedger ≡ true
 unfolding aboveFloor
-fresh-above c v = each-all (c .n) (serverAbove c freshLedger) (λ i h. ap (aboveOf c) (fresh-weight c i) ∙ start-above c i v)
+fresh-above c v = each-all (c .n) (serverAbove c freshLedger) (λ i h. ap (aboveOf c) (fresh-weight c i) ∙ start-above c i v h)

@@ -16,9 +16,9 @@ use Rattle.quorums.proofs.Weights.{above-grows}
 use Rattle.config.specs.Refusals.{refusal}
 use Rattle.config.specs.declared.answer.Refusal.{Refusal}
 use Rattle.config.specs.declared.answer.Verdict.{Verdict}
-use Rattle.config.specs.Cluster.{validOf, serverOf, startOf, totalOf, aboveOf, leastOf, mostWeight}
+use Rattle.config.specs.Cluster.{validOf, lawfulOf, serverOf, startOf, totalOf, aboveOf, leastOf, mostWeight}
 use Rattle.config.specs.declared.cluster.Config.{Config}
-use Rattle.config.proofs.Clusters.{valid-bounds, server-valid, total-small, above-least}
+use Rattle.config.proofs.Clusters.{server-valid, lawful-valid, lawful-bounds, total-small, above-least}
 use Rattle.ledger.specs.declared.ledger.Ledger.{Ledger}
 use Rattle.ledger.specs.declared.ledger.Changed.{Changed}
 use Rattle.ledger.specs.Ledgers.{countOf, cellOf, givenOf, receivedOf, accountsOf, refused, accepted, Typed}
@@ -69,11 +69,11 @@ weight-small c l i v b a h =
     )
 
 -- A gift that leaves a weight above the floor is at most all weight.
-pub spared-small : (c : Config) (l : Ledger) (i d : ℕ) → validOf c ≡ true → bounded c l ≡ true → aboveFloor c l ≡ true → i < c .n
+pub spared-small : (c : Config) (l : Ledger) (i d : ℕ) → lawfulOf c ≡ true → bounded c l ≡ true → aboveFloor c l ≡ true → i < c .n
     → spares c l i d ≡ true → d ≤ mostWeight
 spared-small c l i d v b a h e =
-    let kept : givenOf l i + d + leastOf c ≤ startOf c i + receivedOf l i = leb-true _ _ (sym (spares-is c l i d v) ∙ e) in
-    omega (arith, weight-small c l i v b a h, total-small c v)
+    let kept : givenOf l i + d + leastOf c ≤ startOf c i + receivedOf l i = leb-true _ _ (sym (spares-is c l i d (lawful-valid c v)) ∙ e) in
+    omega (arith, weight-small c l i (lawful-valid c v) b a h, total-small c v)
 
 -- a cell is at most its row's total
 cell-small : (l : Ledger) (i j : ℕ) → j < 16 → cellOf l i j ≤ givenOf l i
@@ -82,10 +82,10 @@ cell-small l i j h =
     omega (arith, sum-rest 16 (λ k. 0) (λ k. cellOf l i k) (λ k m. omega arith) j h, sum-zero 16 (λ k. 0) (λ k m. refl))
 
 -- A gift that passes the tests has room in its cell: a row's total is at most 16,000 for each of its transfers, of which there are at most 65,535.
-pub spared-room : (c : Config) (l : Ledger) (i j d : ℕ) → validOf c ≡ true → bounded c l ≡ true → aboveFloor c l ≡ true → i < c .n → j < c .n
+pub spared-room : (c : Config) (l : Ledger) (i j d : ℕ) → lawfulOf c ≡ true → bounded c l ≡ true → aboveFloor c l ≡ true → i < c .n → j < c .n
     → countOf l i < mostCount → spares c l i d ≡ true → cellOf l i j + d ≤ 4294967295
 spared-room c l i j d v b a hi hj h e =
-    let most = valid-bounds c v .most in
+    let most = lawful-bounds c v .most in
     let t = total-fits-told (countOf l i) (givenOf l i) (all-each 16 (rowFits l) (bounded-told c l b .1) i (omega (arith, most))) in
     omega (arith, t .1, cell-small l i j (omega (arith, most)), spared-small c l i d v b a hi e)
 
@@ -113,12 +113,12 @@ added-above c l i j d t hi hj hn ne a p =
     one k h (no e) (no q) = ap (aboveOf c) (other-weight l i j d t hi hj c k (omega arith) e q) ∙ each-above c l a k h
 
 -- so the ledger with it is within bounds, and not light
-pub added-kept : (c : Config) (l : Ledger) (i j d : ℕ) → Typed l → validOf c ≡ true → i < c .n → lawful c i j d ≡ true → bounded c l ≡ true
+pub added-kept : (c : Config) (l : Ledger) (i j d : ℕ) → Typed l → lawfulOf c ≡ true → i < c .n → lawful c i j d ≡ true → bounded c l ≡ true
     → aboveFloor c l ≡ true
     → spares c l i d ≡ true
     → (bounded c (added l i j d) ≡ true) × (aboveFloor c (added l i j d) ≡ true)
 added-kept c l i j d t v hi w b a p =
-    let most = valid-bounds c v .most in
+    let most = lawful-bounds c v .most in
     let k = lawful-told c i j d w in
     let small : (i < 16) × (j < 16) = omega (arith, most, k .1) in (
       added-bounded l i j d t (small .0) (small .1) c hi w (spared-small c l i d v b a hi p) b,
@@ -130,6 +130,7 @@ added-kept c l i j d t v hi w b a p =
 -- the tests that a transfer passes
 pub record Adds (c : Config) (l : Ledger) (i j d : ℕ) : Type 0 where
   pub one-of : serverOf c i ≡ true
+  pub house : lawfulOf c ≡ true
   pub sound : fits c l ≡ true
   pub legal : lawful c i j d ≡ true
   pub counted : countOf l i < mostCount
@@ -140,16 +141,17 @@ add-cases : (P : Changed → Type 0) (c : Config) (l : Ledger) (i j d : ℕ) →
     → P (addAnswer c l i j d)
 unfolding addAnswer giveAnswer
 add-cases P c l i j d done left =
-    by-tests (serverOf c i) (fits c l) (lawful c i j d) (ltb (countOf l i) mostCount) (spares c l i d) refl refl refl refl refl
+    by-tests (serverOf c i) (lawfulOf c) (fits c l) (lawful c i j d) (ltb (countOf l i) mostCount) (spares c l i d) refl refl refl refl refl refl
   where
-    by-tests : (o f w t p : Bool) → serverOf c i ≡ o → fits c l ≡ f → lawful c i j d ≡ w → ltb (countOf l i) mostCount ≡ t → spares c l i d ≡ p
-        → P (cond o (cond f (cond w (cond t (cond p (accepted (added l i j d)) (refused (refusal 10) l)) (refused (refusal 12) l)) (refused (refusal 11) l)) (refused (refusal 1) l)) (refused (refusal 1) l))
-    by-tests true true true true true a b e k g = done (record { one-of = a; sound = b; legal = e; counted = ltb-true _ _ k; spared = g })
-    by-tests true true true true false a b e k g = left (refusal 10)
-    by-tests true true true false p a b e k g = left (refusal 12)
-    by-tests true true false t p a b e k g = left (refusal 11)
-    by-tests true false w t p a b e k g = left (refusal 1)
-    by-tests false f w t p a b e k g = left (refusal 1)
+    by-tests : (o s f w t p : Bool) → serverOf c i ≡ o → lawfulOf c ≡ s → fits c l ≡ f → lawful c i j d ≡ w → ltb (countOf l i) mostCount ≡ t → spares c l i d ≡ p
+        → P (cond o (cond s (cond f (cond w (cond t (cond p (accepted (added l i j d)) (refused (refusal 10) l)) (refused (refusal 12) l)) (refused (refusal 11) l)) (refused (refusal 1) l)) (refused (refusal 15) l)) (refused (refusal 1) l))
+    by-tests true true true true true true a v b e k g = done (record { one-of = a; house = v; sound = b; legal = e; counted = ltb-true _ _ k; spared = g })
+    by-tests true true true true true false a v b e k g = left (refusal 10)
+    by-tests true true true true false p a v b e k g = left (refusal 12)
+    by-tests true true true false t p a v b e k g = left (refusal 11)
+    by-tests true true false w t p a v b e k g = left (refusal 1)
+    by-tests true false f w t p a v b e k g = left (refusal 15)
+    by-tests false s f w t p a v b e k g = left (refusal 1)
 
 module _ (c : Config) (l : Ledger) (i j d : ℕ) where
   -- so an accepted transfer has passed them and is added
@@ -164,9 +166,9 @@ module _ (c : Config) (l : Ledger) (i j d : ℕ) where
       add-cases (λ x. x .verdict ≡ Verdict.Refused r → x .ledger ≡ l) c l i j d (λ g e. accepted-not-refused r e) (λ k e. refl)
 
   -- on a ledger that fits the verdict is that of the tests of a transfer
-  pub add-gives : serverOf c i ≡ true → fits c l ≡ true → giveVerdict c i j d (countOf l i) (spares c l i d) ≡ addAnswer c l i j d .verdict
+  pub add-gives : serverOf c i ≡ true → lawfulOf c ≡ true → fits c l ≡ true → giveVerdict c i j d (countOf l i) (spares c l i d) ≡ addAnswer c l i j d .verdict
   unfolding addAnswer giveAnswer giveVerdict
-  add-gives o f = rw (o, f) (by-tests (lawful c i j d) (ltb (countOf l i) mostCount) (spares c l i d))
+  add-gives o v f = rw (o, v, f) (by-tests (lawful c i j d) (ltb (countOf l i) mostCount) (spares c l i d))
     where
       by-tests : (w t p : Bool)
           → cond w (cond t (cond p Verdict.Accepted (Verdict.Refused (refusal 10))) (Verdict.Refused (refusal 12))) (Verdict.Refused (refusal 11))
@@ -184,7 +186,7 @@ add-fits c l i j d t f = add-cases (λ x. fits c (x .ledger) ≡ true) c l i j d
     given g =
         let s = server-valid c i (g .one-of) in
         let b = ledger-told c l f in
-        let k = added-kept c l i j d t (s .0) (s .1) (g .legal) (b .0) (b .1) (g .spared) in
+        let k = added-kept c l i j d t (g .house) (s .1) (g .legal) (b .0) (b .1) (g .spared) in
         told-ledger c (added l i j d) (k .0) (k .1)
 
 -- And it is still one that a call can have.
@@ -196,6 +198,6 @@ add-typed c l i j d t = add-cases (λ x. Typed (x .ledger)) c l i j d given (λ 
         let s = server-valid c i (g .one-of) in
         let b = ledger-told c l (g .sound) in
         let k = lawful-told c i j d (g .legal) in
-        let most = valid-bounds c (s .0) .most in
+        let most = lawful-bounds c (g .house) .most in
         added-typed l i j d t (omega (arith, most, s .1)) (omega (arith, most, k .1)) (g .counted)
-        (spared-room c l i j d (s .0) (b .0) (b .1) (s .1) (k .1) (g .counted) (g .spared))
+        (spared-room c l i j d (g .house) (b .0) (b .1) (s .1) (k .1) (g .counted) (g .spared))

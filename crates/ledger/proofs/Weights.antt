@@ -7,17 +7,14 @@ use mathlib.Core.List.{List}
 use borrow.Author.Tests.{lt-ltb}
 use lib.Dec.{leb}
 use lib.ListN.{getD}
-use Rattle.quorums.specs.Sum.{sumIn}
+use Rattle.quorums.specs.Sum.{sum, sumIn}
 use Rattle.quorums.specs.Difference.{difference}
 use Rattle.quorums.specs.Accounts.{held, weight, total, margin}
-use Rattle.quorums.proofs.Sums.{all-same, sumIn-none, sumIn-next, sumIn-same}
+use Rattle.quorums.proofs.Sums.{sum-none, sum-next, all-same, sumIn-none, sumIn-next, sumIn-same}
 use Rattle.quorums.proofs.Weights.{margin-is}
 use Rattle.config.specs.Cluster.{validOf, serverOf, startOf, totalOf, aboveOf, leastOf}
-use Rattle.config.specs.Answers.{totalAnswer, leastAnswer}
 use Rattle.config.specs.declared.cluster.Config.{Config}
-use Rattle.config.specs.declared.answer.Number.{Number}
-use Rattle.config.specs.declared.answer.Refusal.{Refusal}
-use Rattle.config.proofs.Clusters.{valid-server, server-small, valid-bounds, start-small, above-least, least-small, total-small, least-told, least-refused, total-told, total-refused}
+use Rattle.config.proofs.Clusters.{valid-server, server-small, valid-bounds, above-least}
 use Rattle.ledger.specs.declared.ledger.Ledger.{Ledger}
 use Rattle.ledger.specs.Ledgers.{cellOf, receivedOf, givenOf, accountsOf, Typed}
 use Rattle.ledger.specs.Maps.{named}
@@ -28,25 +25,6 @@ use Rattle.quorums.proofs.Tables.{table-at}
 use Rattle.ledger.specs.Sums.{accountsIn, allAbove, Sums, Weighs, receivedFrom, givenBelow}
 use Rattle.ledger.proofs.Tallies.{sum-most, sums-small}
 use Rattle.ledger.proofs.Faults.{from-all}
-
--- ---- answers
-
--- a cluster within bounds is never refused
-never : false ≡ true → ⊥
-never e = let z : _≡_ {A = ℕ} 0 1 = cc in omega arith
-
-pub least-stands : (c : Config) (r : Refusal) → validOf c ≡ true → leastAnswer c ≡ Number.Refused r → ⊥
-least-stands c r v e = never (sym (least-refused c r e) ∙ v)
-
-pub total-stands : (c : Config) (r : Refusal) → validOf c ≡ true → totalAnswer c ≡ Number.Refused r → ⊥
-total-stands c r v e = never (sym (total-refused c r e) ∙ v)
-
--- what is answered is small
-pub least-bound : (c : Config) (least : ℕ) → leastAnswer c ≡ Number.Value least → least ≤ 16001
-least-bound c least e = omega (arith, least-told c least e .1, least-small c (least-told c least e .0))
-
-pub total-bound : (c : Config) (W : ℕ) → totalAnswer c ≡ Number.Value W → W ≤ 16000
-total-bound c W e = omega (arith, total-told c W e .1, total-small c (total-told c W e .0))
 
 -- ---- as the program computes them
 
@@ -70,41 +48,63 @@ counts-most true x = omega arith
 counts-most false x = omega arith
 
 -- the margin, from the sums of those that a map names
-pub margin-at : (c : Config) (r g : List ℕ) (m W h k : ℕ) → totalAnswer c ≡ Number.Value W
+pub margin-at : (c : Config) (r g : List ℕ) (m W h k : ℕ) → W ≡ totalOf c
     → h ≡ sumIn (c .n) (named m) (held (accountsIn c r g))
     → k ≡ sumIn (c .n) (named m) (λ i. getD g i 0)
     → difference (2 * h) (2 * k + W) ≡ margin (c .n) (accountsIn c r g) (named m)
 unfolding total totalOf
-margin-at c r g m W h k e p q = rw (total-told c W e .1, p, q) (sym (margin-is (c .n) (accountsIn c r g) (named m)))
+margin-at c r g m W h k e p q = rw (e, p, q) (sym (margin-is (c .n) (accountsIn c r g) (named m)))
 
--- The sums of those that a map names, of the servers below i.
-pub record Counted (c : Config) (r g : List ℕ) (m i h k : ℕ) : Type 0 where
+-- The start weights of the servers below i, and the sums of those that a map names.
+pub record Counted (c : Config) (r g : List ℕ) (m i W h k : ℕ) : Type 0 where
+  pub total-is : W ≡ sum i (startOf c)
   pub held-is : h ≡ sumIn i (named m) (held (accountsIn c r g))
   pub gave-is : k ≡ sumIn i (named m) (λ j. getD g j 0)
-  pub held-small : h ≤ i * 68719492720
-  pub gave-small : k ≤ i * 68719492720
+  pub total-small : W ≤ i * 65535
+  pub held-small : h ≤ i * 68719542255
+  pub gave-small : k ≤ i * 68719542255
 
-pub counted-none : (c : Config) (r g : List ℕ) (m : ℕ) → Counted c r g m 0 0 0
-counted-none c r g m = record { held-is = sym (sumIn-none _ _); gave-is = sym (sumIn-none _ _); held-small = omega arith; gave-small = omega arith }
+pub counted-none : (c : Config) (r g : List ℕ) (m : ℕ) → Counted c r g m 0 0 0 0
+counted-none c r g m =
+    record {
+      total-is = sym (sum-none _);
+      held-is = sym (sumIn-none _ _);
+      gave-is = sym (sumIn-none _ _);
+      total-small = omega arith;
+      held-small = omega arith;
+      gave-small = omega arith;
+    }
 
-module _ {c : Config} {r g : List ℕ} {m i h k start : ℕ} (s : Counted c r g m i h k) (sr : Sums 68719476720 r) (sg : Sums 68719476720 g) (e : start ≡ startOf c i) where
+module _ {c : Config} {r g : List ℕ} {m i W h k start : ℕ} (s : Counted c r g m i W h k) (sr : Sums 68719476720 r) (sg : Sums 68719476720 g) (e : start ≡ startOf c i) (small : start ≤ 65535) where
   -- there is room for one more
-  pub counted-room : i < 16 → (h + start + getD r i 0 ≤ 1099511883520) × (k + getD g i 0 ≤ 1099511883520)
-  counted-room l = (omega (arith, start-small c i, sr .small i), omega (arith, sg .small i))
+  pub counted-room : i < 16 → (W + start ≤ 1048560) × (h + start + getD r i 0 ≤ 1099512676080) × (k + getD g i 0 ≤ 1099512676080)
+  counted-room l = (omega (arith, s .total-small), omega (arith, s .held-small, sr .small i), omega (arith, s .gave-small, sg .small i))
+
+  total-next : {w : ℕ} → w ≡ W + start → w ≡ sum (i + 1) (startOf c)
+  total-next q = omega (arith, q, s .total-is, e, sum-next i (startOf c))
 
   -- a server that the map names counts, and one that it does not name does not
-  pub counted-named : {x y : ℕ} → named m i ≡ true → x ≡ h + start + getD r i 0 → y ≡ k + getD g i 0 → Counted c r g m (i + 1) x y
-  counted-named t p q =
+  pub counted-named : {w x y : ℕ} → named m i ≡ true → w ≡ W + start → x ≡ h + start + getD r i 0 → y ≡ k + getD g i 0 → Counted c r g m (i + 1) w x y
+  counted-named t o p q =
       record {
-        held-is = rw (sumIn-next, t) (omega arith);
-        gave-is = rw (sumIn-next, t) (omega arith);
-        held-small = omega (arith, start-small c i, sr .small i);
-        gave-small = omega (arith, sg .small i);
+        total-is = total-next o;
+        held-is = rw (sumIn-next, t) (omega (arith, s .held-is));
+        gave-is = rw (sumIn-next, t) (omega (arith, s .gave-is));
+        total-small = omega (arith, s .total-small);
+        held-small = omega (arith, s .held-small, sr .small i);
+        gave-small = omega (arith, s .gave-small, sg .small i);
       }
 
-  pub counted-passed : {x y : ℕ} → named m i ≡ false → x ≡ h → y ≡ k → Counted c r g m (i + 1) x y
-  counted-passed t p q =
-      record { held-is = rw (sumIn-next, t) (omega arith); gave-is = rw (sumIn-next, t) (omega arith); held-small = omega arith; gave-small = omega arith }
+  pub counted-passed : {w x y : ℕ} → named m i ≡ false → w ≡ W + start → x ≡ h → y ≡ k → Counted c r g m (i + 1) w x y
+  counted-passed t o p q =
+      record {
+        total-is = total-next o;
+        held-is = rw (sumIn-next, t) (omega (arith, s .held-is));
+        gave-is = rw (sumIn-next, t) (omega (arith, s .gave-is));
+        total-small = omega (arith, s .total-small);
+        held-small = omega (arith, s .held-small);
+        gave-small = omega (arith, s .gave-small);
+      }
 
 -- ---- on a ledger
 

@@ -5,6 +5,7 @@ use lib.Dec.{leb, ltb, eqb}
 use lib.IntN.{pos, _-ℤ_}
 use lib.ListN.{set}
 use Rattle.config.specs.Cluster.{serverOf, aboveOf}
+use Rattle.config.specs.Answers.{judged}
 use Rattle.config.specs.declared.cluster.Config.{Config}
 use Rattle.config.specs.Refusals.{refusal}
 use Rattle.config.specs.declared.answer.Verdict.{Verdict}
@@ -46,7 +47,7 @@ giveVerdict c i j d count spared =
     cond (lawful c i j d) (cond (ltb count mostCount) (cond spared Verdict.Accepted (Verdict.Refused (refusal 10))) (Verdict.Refused (refusal 12)))
     (Verdict.Refused (refusal 11))
 
--- What the call answers: 1 for the cluster, for a giver that there isn't and for a ledger that is out of range or light, then 11, 12, 10, or the
--- ledger with the transfer.
+-- What the call answers: 1 for n and f and for a giver that there isn't, 15 for bad start weights, 1 for a ledger that is out of range or light, then 11, 12,
+-- 10, or the ledger with the transfer.
 unfoldable pub addAnswer : Config → Ledger → ℕ → ℕ → ℕ → Changed
-addAnswer c l i j d = cond (serverOf c i) (cond (fits c l) (giveAnswer c l i j d) (refused (refusal 1) l)) (refused (refusal 1) l)
+addAnswer c l i j d = judged (serverOf c i) c (cond (fits c l) (giveAnswer c l i j d) (refused (refusal 1) l)) (λ k. refused k l)

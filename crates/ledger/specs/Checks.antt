@@ -5,6 +5,7 @@ use lib.Dec.{leb, ltb, eqb}
 use lib.ListN.{getD}
 use Rattle.quorums.specs.Sum.{all}
 use Rattle.config.specs.Cluster.{validOf, aboveOf, mostWeight}
+use Rattle.config.specs.Answers.{judged}
 use Rattle.config.specs.declared.cluster.Config.{Config}
 use Rattle.config.specs.Refusals.{refusal}
 use Rattle.config.specs.declared.answer.Verdict.{Verdict}
@@ -41,16 +42,17 @@ aboveFloor c l = all (c .n) (serverAbove c l)
 unfoldable pub fits : Config → Ledger → Bool
 fits c l = cond (bounded c l) (aboveFloor c l) false
 
--- What the calls answer: 1 for the cluster, 4 for a range, 5 for the floor.
+-- What the calls answer: 1 or 15 for the cluster, 4 for a range, 5 for the floor.
 
 unfoldable pub boundsAnswer : Config → Ledger → Verdict
-boundsAnswer c l = cond (validOf c) (cond (bounded c l) Verdict.Accepted (Verdict.Refused (refusal 4))) (Verdict.Refused (refusal 1))
+boundsAnswer c l = judged (validOf c) c (cond (bounded c l) Verdict.Accepted (Verdict.Refused (refusal 4))) Verdict.Refused
 
 unfoldable pub floorAnswer : Config → Ledger → Verdict
-floorAnswer c l = cond (validOf c) (cond (aboveFloor c l) Verdict.Accepted (Verdict.Refused (refusal 5))) (Verdict.Refused (refusal 1))
+floorAnswer c l = judged (validOf c) c (cond (aboveFloor c l) Verdict.Accepted (Verdict.Refused (refusal 5))) Verdict.Refused
+
+-- of a ledger of a lawful cluster
+unfoldable pub fitAnswer : Config → Ledger → Verdict
+fitAnswer c l = cond (bounded c l) (cond (aboveFloor c l) Verdict.Accepted (Verdict.Refused (refusal 5))) (Verdict.Refused (refusal 4))
 
 unfoldable pub checkAnswer : Config → Ledger → Verdict
-checkAnswer c l =
-    cond (validOf c)
-    (cond (bounded c l) (cond (aboveFloor c l) Verdict.Accepted (Verdict.Refused (refusal 5))) (Verdict.Refused (refusal 4)))
-    (Verdict.Refused (refusal 1))
+checkAnswer c l = judged (validOf c) c (fitAnswer c l) Verdict.Refused

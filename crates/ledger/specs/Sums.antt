@@ -11,6 +11,8 @@ use Rattle.quorums.specs.Accounts.{Accounts, weight}
 use Rattle.config.specs.Cluster.{startOf, aboveOf, mostWeight}
 use Rattle.config.specs.Refusals.{by-verdict}
 use Rattle.config.specs.declared.cluster.Config.{Config}
+use Rattle.config.specs.declared.answer.Refusal.{Refusal}
+use Rattle.config.specs.declared.answer.Verdict.{Verdict}
 use Rattle.ledger.specs.declared.ledger.Ledger.{Ledger}
 use Rattle.ledger.specs.declared.sums.Weighed.{Weighed}
 use Rattle.ledger.specs.Ledgers.{countOf, cellOf, receivedOf, givenOf}
@@ -68,6 +70,10 @@ beyondFrom n l i = cond (ltb i n) 0 (beyond n l i)
 -- both together, which is 0 exactly where every count and cell is in range
 unfoldable pub faultsOf : ℕ → Ledger → ℕ
 faultsOf n l = sum n (rowFaults l) + sum 16 (beyondFrom n l)
+
+-- a ledger that is refused has no margin
+abbrev pub unweighedOf : Refusal → Weighed
+unweighedOf k = record { verdict = Verdict.Refused k; margin = pos 0 }
 
 -- what the record test finds, and the margin of a map, 0 where the test refuses
 unfoldable pub weighedOf : Config → Ledger → ℕ → Weighed

@@ -1,11 +1,12 @@
--- Weights, margins and quorums on a ledger (paper 01, "Sheets"; paper 02, N1). A cluster out of bounds, a server ≥ n and a map with a bit ≥ n are 1.
+-- Weights, margins and quorums on a ledger (paper 01, "Sheets"; paper 02, N1). A cluster out of bounds, a server ≥ n and a map with a bit ≥ n
+-- are 1, and then bad start weights are 15 (N2).
 use Prim.Native.Nat.{ℕ}
-use mathlib.Core.Bool.{Bool, true, cond}
+use mathlib.Core.Bool.{Bool, true}
 use lib.IntN.{ℤ}
 use Rattle.quorums.specs.Accounts.{weight, weightIn, margin, quorum}
 use Rattle.config.specs.Cluster.{validOf, serverOf}
+use Rattle.config.specs.Answers.{judged}
 use Rattle.config.specs.declared.cluster.Config.{Config}
-use Rattle.config.specs.Refusals.{refusal}
 use Rattle.config.specs.declared.answer.Number.{Number}
 use Rattle.config.specs.declared.answer.Signed.{Signed}
 use Rattle.ledger.specs.declared.ledger.Ledger.{Ledger}
@@ -31,17 +32,17 @@ quorumOf c l m = quorum (c .n) (accountsOf c l) (named m)
 -- What the calls answer.
 
 unfoldable pub givenAnswer : Config → Ledger → ℕ → Number
-givenAnswer c l i = cond (serverOf c i) (Number.Value (givenOf l i)) (Number.Refused (refusal 1))
+givenAnswer c l i = judged (serverOf c i) c (Number.Value (givenOf l i)) Number.Refused
 
 unfoldable pub receivedAnswer : Config → Ledger → ℕ → Number
-receivedAnswer c l i = cond (serverOf c i) (Number.Value (receivedOf l i)) (Number.Refused (refusal 1))
+receivedAnswer c l i = judged (serverOf c i) c (Number.Value (receivedOf l i)) Number.Refused
 
 unfoldable pub weightAnswer : Config → Ledger → ℕ → Signed
-weightAnswer c l i = cond (serverOf c i) (Signed.Value (weightOf c l i)) (Signed.Refused (refusal 1))
+weightAnswer c l i = judged (serverOf c i) c (Signed.Value (weightOf c l i)) Signed.Refused
 
 unfoldable pub allAnswer : Config → Ledger → Signed
-allAnswer c l = cond (validOf c) (Signed.Value (allOf c l)) (Signed.Refused (refusal 1))
+allAnswer c l = judged (validOf c) c (Signed.Value (allOf c l)) Signed.Refused
 
 -- "The quorum answer becomes a signed number: twice the weight of the map less W" (paper 02, N1).
 unfoldable pub quorumAnswer : Config → Ledger → ℕ → Signed
-quorumAnswer c l m = cond (mapOf c m) (Signed.Value (marginOf c l m)) (Signed.Refused (refusal 1))
+quorumAnswer c l m = judged (mapOf c m) c (Signed.Value (marginOf c l m)) Signed.Refused

@@ -21,7 +21,7 @@ pub(crate) struct Balance {
 // The balance of the servers that a map names together, by the 256 cells of a ledger. They are lent, since a copy of a ledger takes longer than the sums.
 pub(crate) fn balance_in(cells: &[u32], config: Config, map: u16) -> Balance
     requires { ⌜ (length (now cells) ≡ 256) × (validOf config ≡ true) ⌝ }
-    ensures { λ r. ⌜ Sides (sumIn (config .n) (named map) (heldIn config (now (cells .entry)))) (sumIn (config .n) (named map) (givenIn (now (cells .entry)))) 1099511883520 r ⌝ }
+    ensures { λ r. ⌜ Sides (sumIn (config .n) (named map) (heldIn config (now (cells .entry)))) (sumIn (config .n) (named map) (givenIn (now (cells .entry)))) 1099512676080 r ⌝ }
 {
     let n = config.n;
     let mut held: u64 = 0;
@@ -39,7 +39,7 @@ pub(crate) fn balance_in(cells: &[u32], config: Config, map: u16) -> Balance
 // The balance of one server.
 pub(crate) fn balance_of(cells: &[u32], config: Config, server: u64) -> Balance
     requires { ⌜ (length (now cells) ≡ 256) × (serverOf config server ≡ true) ⌝ }
-    ensures { λ r. ⌜ Sides (heldIn config (now (cells .entry)) server) (givenIn (now (cells .entry)) server) 68719492720 r ⌝ }
+    ensures { λ r. ⌜ Sides (heldIn config (now (cells .entry)) server) (givenIn (now (cells .entry)) server) 68719542255 r ⌝ }
 {
     let i = server as usize;
     let received = line(cells, i, 16);
@@ -53,7 +53,7 @@ pub(crate) fn balance_of(cells: &[u32], config: Config, server: u64) -> Balance
 // The same, or nothing where the map does not name the server.
 fn balance_named(cells: &[u32], config: Config, map: u16, server: u64) -> Balance
     requires { ⌜ (length (now cells) ≡ 256) × (serverOf config server ≡ true) ⌝ }
-    ensures { λ r. ⌜ Sides (cond (named map server) (heldIn config (now (cells .entry)) server) 0) (cond (named map server) (givenIn (now (cells .entry)) server) 0) 68719492720 r ⌝ }
+    ensures { λ r. ⌜ Sides (cond (named map server) (heldIn config (now (cells .entry)) server) 0) (cond (named map server) (givenIn (now (cells .entry)) server) 0) 68719542255 r ⌝ }
 {
     if names(map, server) {
         return balance_of(cells, config, server);

@@ -7,11 +7,10 @@ use config::Number;
 use config::Refusal;
 use config::Verdict;
 ghost use mathlib.Core.Path.{_≡_};
-ghost use mathlib.Core.Bool.{true};
 ghost use Prim.Native.Nat.{_+_, _*_, _-_, _≤_, _<_};
 ghost use lib.Dec.{leb};
 ghost use lib.ListN.{length, getD, set};
-ghost use Rattle.config.specs.Cluster.{validOf, startOf, leastOf};
+ghost use Rattle.config.specs.Cluster.{startOf};
 ghost use Rattle.ledger.specs.Ledgers.{ledgerOf};
 ghost use Rattle.ledger.specs.Changes.{lawful as lawfulOf, giveVerdict, addAnswer};
 
@@ -19,8 +18,9 @@ ghost use Rattle.ledger.specs.Changes.{lawful as lawfulOf, giveVerdict, 
 const MOST_COUNT: u16 = 65535;
 
 impl Ledger {
-    // The ledger with a transfer of `amount` from `giver` to `taker` added: 1 for the cluster, a giver ≥ n, or a ledger out of range or light; 11 for a
-    // taker that is the giver or ≥ n or an amount of 0; 12 where the giver's count is at its end; 10 where the rest of its weight isn't above the floor.
+    // The ledger with a transfer of `amount` from `giver` to `taker` added: 1 for n, f and a giver ≥ n; 15 for bad start weights; 1 for a ledger out of
+    // range or light; 11 for a taker that is the giver or ≥ n or an amount of 0; 12 where the giver's count is at its end; 10 where the rest of its weight
+    // isn't above the floor.
     pub fn add(self, config: Config, giver: u64, taker: u64, amount: u64) -> Changed
         ensures { λ r. ⌜ r ≡ addAnswer config self giver taker amount ⌝ }
     {
@@ -79,14 +79,18 @@ fn may_add(
     if !config.has(giver) {
         return Verdict::Refused(Refusal::BadHouse);
     }
+    let Number::Value(least) = config.least() else {
+        return Verdict::Refused(Refusal::BadStart);
+    };
     let mut received: [u64; 16] = [0; 16];
     let mut given: [u64; 16] = [0; 16];
-    let Verdict::Accepted = weigh(counts, cells, config, &mut received, &mut given) else {
+    let Verdict::Accepted = weigh(counts, cells, config, least, &mut received, &mut given) else {
         return Verdict::Refused(Refusal::BadHouse);
     };
     let i = giver as usize;
     may_give(
         config,
+        least,
         giver,
         taker,
         amount,
@@ -99,6 +103,7 @@ fn may_add(
 // The tests of a transfer on a ledger that fits: 11, then 12, then 10.
 fn may_give(
     config: Config,
+    least: u64,
     giver: u64,
     taker: u64,
     amount: u64,
@@ -106,8 +111,8 @@ fn may_give(
     received: u64,
     given: u64,
 ) -> Verdict
-    requires { ⌜ (validOf config ≡ true) × (received ≤ 68719476720) × (given + leastOf config ≤ startOf config giver + received) ⌝ }
-    ensures { λ r. ⌜ r ≡ giveVerdict config giver taker amount count (leb amount (startOf config giver + received - given - leastOf config)) ⌝ }
+    requires { ⌜ (received ≤ 68719476720) × (given + least ≤ startOf config giver + received) ⌝ }
+    ensures { λ r. ⌜ r ≡ giveVerdict config giver taker amount count (leb amount (startOf config giver + received - given - least)) ⌝ }
 {
     if !lawful(config, giver, taker, amount) {
         return Verdict::Refused(Refusal::BadTransfer);
@@ -115,20 +120,17 @@ fn may_give(
     if count == MOST_COUNT {
         return Verdict::Refused(Refusal::Spent);
     }
-    if !spares(config, giver, amount, received, given) {
+    if !spares(config, least, giver, amount, received, given) {
         return Verdict::Refused(Refusal::Thin);
     }
     Verdict::Accepted
 }
 
 // Whether a server that is above the floor still is once it has given `amount`, by what it received and gave.
-fn spares(config: Config, server: u64, amount: u64, received: u64, given: u64) -> bool
-    requires { ⌜ (validOf config ≡ true) × (received ≤ 68719476720) × (given + leastOf config ≤ startOf config server + received) ⌝ }
-    ensures { λ r. ⌜ r ≡ leb amount (startOf config server + received - given - leastOf config) ⌝ }
+fn spares(config: Config, least: u64, server: u64, amount: u64, received: u64, given: u64) -> bool
+    requires { ⌜ (received ≤ 68719476720) × (given + least ≤ startOf config server + received) ⌝ }
+    ensures { λ r. ⌜ r ≡ leb amount (startOf config server + received - given - least) ⌝ }
 {
-    let Number::Value(least) = config.least() else {
-        return false;
-    };
     amount <= config.start_at(server) + received - given - least
 }
 

@@ -13,26 +13,26 @@ ghost use mathlib.Core.Path.{_≡_};
 ghost use mathlib.Core.Bool.{true};
 ghost use mathlib.Core.List.{[]};
 ghost use lib.ListN.{length};
-ghost use Rattle.config.specs.Cluster.{validOf, leastOf};
+ghost use Rattle.config.specs.Cluster.{lawfulOf, leastOf};
 ghost use Rattle.ledger.specs.Ledgers.{ledgerOf};
 ghost use Rattle.ledger.specs.Checks.{totalFits, aboveFloor, boundsAnswer, floorAnswer, checkAnswer};
 
 impl Ledger {
-    // The first fault of the ledger: 1 for the cluster, 4 for a count or cell out of range, 5 for a weight not above the floor.
+    // The first fault of the ledger: 1 or 15 for the cluster, 4 for a count or cell out of range, 5 for a weight not above the floor.
     pub fn check(self, config: Config) -> Verdict
         ensures { λ r. ⌜ r ≡ checkAnswer config self ⌝ }
     {
         check_held(&self.counts, &self.cells, config)
     }
 
-    // Whether every count and cell is within range: 1 for the cluster, then 4.
+    // Whether every count and cell is within range: 1 or 15 for the cluster, then 4.
     pub fn check_bounds(self, config: Config) -> Verdict
         ensures { λ r. ⌜ r ≡ boundsAnswer config self ⌝ }
     {
         bounds(&self.counts, &self.cells, config)
     }
 
-    // Whether every weight is above the floor: 1 for the cluster, then 5.
+    // Whether every weight is above the floor: 1 or 15 for the cluster, then 5.
     pub fn check_floor(self, config: Config) -> Verdict
         ensures { λ r. ⌜ r ≡ floorAnswer config self ⌝ }
     {
@@ -51,9 +51,15 @@ fn check_held<'a>(counts: &'a [u16; 16], cells: &'a [u32; 256], config: Config) 
 pub fn check_lent(counts: &[u16; 16], cells: &[u32; 256], config: Config) -> Verdict
     ensures { λ r. ⌜ r ≡ checkAnswer config (ledgerOf (now (counts .entry)) (now (cells .entry))) ⌝ }
 {
+    if !config.valid() {
+        return Verdict::Refused(Refusal::BadHouse);
+    }
+    let Number::Value(least) = config.least() else {
+        return Verdict::Refused(Refusal::BadStart);
+    };
     let mut received: [u64; 16] = [0; 16];
     let mut given: [u64; 16] = [0; 16];
-    weigh(counts, cells, config, &mut received, &mut given)
+    weigh(counts, cells, config, least, &mut received, &mut given)
 }
 
 // Whether the counts and cells that are lent are within range.
@@ -63,6 +69,9 @@ fn bounds<'a>(counts: &'a [u16], cells: &'a [u32], config: Config) -> Verdict
 {
     if !config.valid() {
         return Verdict::Refused(Refusal::BadHouse);
+    }
+    if !config.lawful() {
+        return Verdict::Refused(Refusal::BadStart);
     }
     let mut received: [u64; 16] = [0; 16];
     let mut given: [u64; 16] = [0; 16];
@@ -77,8 +86,11 @@ pub(crate) fn floor(cells: &[u32], config: Config) -> Verdict
     requires { ⌜ length (now cells) ≡ 256 ⌝ }
     ensures { λ r. ⌜ r ≡ floorAnswer config (ledgerOf [] (now (cells .entry))) ⌝ }
 {
-    let Number::Value(least) = config.least() else {
+    if !config.valid() {
         return Verdict::Refused(Refusal::BadHouse);
+    }
+    let Number::Value(least) = config.least() else {
+        return Verdict::Refused(Refusal::BadStart);
     };
     if !above_floor(cells, config, least) {
         return Verdict::Refused(Refusal::Light);
@@ -86,9 +98,9 @@ pub(crate) fn floor(cells: &[u32], config: Config) -> Verdict
     Verdict::Accepted
 }
 
-// Whether no server of a valid cluster has less than the least weight above the floor.
+// Whether no server of a lawful cluster has less than the least weight above the floor.
 fn above_floor(cells: &[u32], config: Config, least: u64) -> bool
-    requires { ⌜ (length (now cells) ≡ 256) × (validOf config ≡ true) × (least ≡ leastOf config) ⌝ }
+    requires { ⌜ (length (now cells) ≡ 256) × (lawfulOf config ≡ true) × (least ≡ leastOf config) ⌝ }
     ensures { λ r. ⌜ r ≡ aboveFloor config (ledgerOf [] (now (cells .entry))) ⌝ }
 {
     let n = config.n;

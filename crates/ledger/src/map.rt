@@ -6,12 +6,15 @@ ghost use mathlib.Core.Path.{_≡_};
 ghost use Prim.Native.Nat.{_<_};
 ghost use Rattle.ledger.specs.Maps.{named, mapOf, namedAnswer};
 
-// How many servers a map names.
+// How many servers a map names: 1 for the cluster or a bit ≥ n, then 15.
 pub fn count_named(config: Config, map: u16) -> Number
     ensures { λ r. ⌜ r ≡ namedAnswer config map ⌝ }
 {
     if !within(config, map) {
         return Number::Refused(Refusal::BadHouse);
+    }
+    if !config.lawful() {
+        return Number::Refused(Refusal::BadStart);
     }
     Number::Value(u16::count_ones(map) as u64)
 }

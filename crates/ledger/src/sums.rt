@@ -14,14 +14,14 @@ ghost use mathlib.Core.Bool.{true};
 ghost use Prim.Native.Nat.{_+_, _*_, _≤_, _<_};
 ghost use lib.ListN.{length, getD, replicate};
 ghost use Rattle.quorums.specs.Sum.{sum};
-ghost use Rattle.config.specs.Cluster.{validOf, leastOf};
+ghost use Rattle.config.specs.Cluster.{validOf, lawfulOf, leastOf};
 ghost use Rattle.config.specs.declared.answer.Verdict.{Verdict as VerdictOf};
 ghost use Rattle.ledger.specs.Ledgers.{ledgerOf};
 ghost use Rattle.quorums.specs.Accounts.{margin};
 ghost use Rattle.ledger.specs.Maps.{named};
-ghost use Rattle.ledger.specs.Checks.{checkAnswer};
+ghost use Rattle.ledger.specs.Checks.{fitAnswer};
 ghost use Rattle.quorums.specs.Tables.{table};
-ghost use Rattle.ledger.specs.Sums.{Sums, Weighs, accountsIn, allAbove, under as underOf, receivedFrom, givenBelow, filledRow, rowFaults, beyondFrom, faultsOf, weighedOf};
+ghost use Rattle.ledger.specs.Sums.{Sums, Weighs, accountsIn, allAbove, under as underOf, receivedFrom, givenBelow, filledRow, rowFaults, beyondFrom, faultsOf, weighedOf, unweighedOf};
 
 // What the record test finds of a ledger, and the margin of a map on it: twice the weight of the servers that it names, less W; 0 where the ledger is
 // refused. They are a quorum where it is above zero.
@@ -34,35 +34,46 @@ pub struct Weighed {
 pub fn weigh_lent(counts: &[u16; 16], cells: &[u32; 256], config: Config, map: u16) -> Weighed
     ensures { λ r. ⌜ r ≡ weighedOf config (ledgerOf (now (counts .entry)) (now (cells .entry))) map ⌝ }
 {
+    if !config.valid() {
+        return unweighed(Refusal::BadHouse);
+    }
+    let Number::Value(least) = config.least() else {
+        return unweighed(Refusal::BadStart);
+    };
     let mut received: [u64; 16] = [0; 16];
     let mut given: [u64; 16] = [0; 16];
-    match weigh(counts, cells, config, &mut received, &mut given) {
+    match weigh(counts, cells, config, least, &mut received, &mut given) {
         Verdict::Accepted => Weighed {
             verdict: Verdict::Accepted,
             margin: margin_of(config, &received, &given, map),
         },
-        Verdict::Refused(r) => Weighed {
-            verdict: Verdict::Refused(r),
-            margin: 0,
-        },
+        Verdict::Refused(r) => unweighed(r),
     }
 }
 
-// The first fault of a ledger: 1 for the cluster, 4 for a count or cell out of range, 5 for a weight not above the floor. Where there is none, two lists
-// of zeros have what each server received and gave.
+// A ledger that is refused has no margin.
+fn unweighed(refusal: Refusal) -> Weighed
+    ensures { λ r. ⌜ r ≡ unweighedOf refusal ⌝ }
+{
+    Weighed {
+        verdict: Verdict::Refused(refusal),
+        margin: 0,
+    }
+}
+
+// The first fault of a ledger of a lawful cluster, whose least weight above the floor is `least`: 4 for a count or cell out of range, 5 for a weight not
+// above the floor. Where there is none, two lists of zeros have what each server received and gave.
 pub(crate) fn weigh(
     counts: &[u16],
     cells: &[u32],
     config: Config,
+    least: u64,
     received: &mut [u64],
     given: &mut [u64],
 ) -> Verdict
-    requires { ⌜ (length (now counts) ≡ 16) × (length (now cells) ≡ 256) × (now received ≡ replicate 16 0) × (now given ≡ replicate 16 0) ⌝ }
-    ensures { λ r. ⌜ (r ≡ checkAnswer config (ledgerOf (now (counts .entry)) (now (cells .entry)))) × (r ≡ VerdictOf.Accepted → Weighs config (ledgerOf (now (counts .entry)) (now (cells .entry))) (now (received .exit)) (now (given .exit))) ⌝ }
+    requires { ⌜ (length (now counts) ≡ 16) × (length (now cells) ≡ 256) × (lawfulOf config ≡ true) × (least ≡ leastOf config) × (now received ≡ replicate 16 0) × (now given ≡ replicate 16 0) ⌝ }
+    ensures { λ r. ⌜ (r ≡ fitAnswer config (ledgerOf (now (counts .entry)) (now (cells .entry)))) × (r ≡ VerdictOf.Accepted → Weighs config (ledgerOf (now (counts .entry)) (now (cells .entry))) (now (received .exit)) (now (given .exit))) ⌝ }
 {
-    let Number::Value(least) = config.least() else {
-        return Verdict::Refused(Refusal::BadHouse);
-    };
     if faults(counts, cells, config.n, received, given) != 0 {
         return Verdict::Refused(Refusal::OddField);
     }
@@ -201,7 +212,7 @@ fn under(a: u64, b: u64) -> u64
 
 // Whether every weight is above the floor, where `least` is the least that is.
 fn above(config: Config, least: u64, received: &[u64], given: &[u64]) -> bool
-    requires { ⌜ (validOf config ≡ true) × (least ≡ leastOf config) × Sums 68719476720 (now received) × Sums 68719476720 (now given) ⌝ }
+    requires { ⌜ (lawfulOf config ≡ true) × (least ≡ leastOf config) × Sums 68719476720 (now received) × Sums 68719476720 (now given) ⌝ }
     ensures { λ r. ⌜ r ≡ allAbove config (now (received .entry)) (now (given .entry)) ⌝ }
 {
     let n = config.n as usize;
@@ -220,15 +231,14 @@ fn margin_of(config: Config, received: &[u64], given: &[u64], map: u16) -> i64
     requires { ⌜ (validOf config ≡ true) × Sums 68719476720 (now received) × Sums 68719476720 (now given) ⌝ }
     ensures { λ r. ⌜ r ≡ margin (config .n) (accountsIn config (now (received .entry)) (now (given .entry))) (named map) ⌝ }
 {
-    let Number::Value(total) = config.total() else {
-        return 0;
-    };
     let n = config.n as usize;
+    let mut total: u64 = 0;
     let mut held: u64 = 0;
     let mut gave: u64 = 0;
     let mut i: usize = 0;
     while i < n {
         let start = config.start_at(i as u64);
+        total += start;
         if names(map, i as u64) {
             held = held + start + received[i];
             gave = gave + given[i];

@@ -23,6 +23,9 @@ impl Ledger {
         if !config.has(server) {
             return Number::Refused(Refusal::BadHouse);
         }
+        if !config.lawful() {
+            return Number::Refused(Refusal::BadStart);
+        }
         let i = server as usize;
         Number::Value(line(&self.cells, i * 16, 1))
     }
@@ -33,6 +36,9 @@ impl Ledger {
     {
         if !config.has(server) {
             return Number::Refused(Refusal::BadHouse);
+        }
+        if !config.lawful() {
+            return Number::Refused(Refusal::BadStart);
         }
         let i = server as usize;
         Number::Value(line(&self.cells, i, 16))
@@ -45,6 +51,9 @@ impl Ledger {
         if !config.has(server) {
             return Signed::Refused(Refusal::BadHouse);
         }
+        if !config.lawful() {
+            return Signed::Refused(Refusal::BadStart);
+        }
         let b = balance_of(&self.cells, config, server);
         Signed::Value(difference(b.held, b.given))
     }
@@ -55,6 +64,9 @@ impl Ledger {
     {
         if !config.valid() {
             return Signed::Refused(Refusal::BadHouse);
+        }
+        if !config.lawful() {
+            return Signed::Refused(Refusal::BadStart);
         }
         let b = balance_in(&self.cells, config, 65535);
         Signed::Value(difference(b.held, b.given))
@@ -77,7 +89,7 @@ fn quorum_in(cells: &[u32], config: Config, map: u16) -> Signed
         return Signed::Refused(Refusal::BadHouse);
     }
     let Number::Value(total) = config.total() else {
-        return Signed::Refused(Refusal::BadHouse);
+        return Signed::Refused(Refusal::BadStart);
     };
     let b = balance_in(cells, config, map);
     Signed::Value(difference(2 * b.held, 2 * b.given + total))

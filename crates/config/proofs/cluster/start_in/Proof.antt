@@ -10,7 +10,7 @@ use Rattle.config.proofs.cluster.start_in.Tie as tie
 returns : tie.Need-returns
 returns c =
     let past : length (c .before .before .args .starts .now) ≤ c .before .before .args .server = omega (arith, c .before .before .pre) in
-    sym (List·getD-eq-default (c .before .before .args .starts .now) 0 past)
+    (sym (List·getD-eq-default (c .before .before .args .starts .now) 0 past), omega arith)
 
 mul-wide : tie.Need-mul-wide
 mul-wide c = search needs

@@ -16,8 +16,8 @@ Inv-loop cells config map n held₀ given₀ i₀ held given i =
     (i ≤ config .n)
     × (held ≡ sumIn i (named map) (heldIn config cells))
     × (given ≡ sumIn i (named map) (givenIn cells))
-    × (held ≤ i * 68719492720)
-    × (given ≤ i * 68719492720)
+    × (held ≤ i * 68719542255)
+    × (given ≤ i * 68719542255)
 
 abbrev μ-loop : tie.MeasureT-loop
 μ-loop cells config map n held₀ given₀ i₀ held given i = config .n - i

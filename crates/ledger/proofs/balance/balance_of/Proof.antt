@@ -3,7 +3,7 @@ use Prim.Native.Nat.{_+_}
 use native.Mathlib.Omega.{arith}
 use mathlib.Core.Path.{ap₂}
 use borrow.Author.Needs.{needs}
-use Rattle.config.proofs.Clusters.{server-small, start-small}
+use Rattle.config.proofs.Clusters.{server-small}
 use Rattle.ledger.proofs.balance.balance_of.Statement.{statement}
 use Rattle.ledger.proofs.balance.balance_of.Tie as tie
 
@@ -20,15 +20,14 @@ start-at-requires : tie.Need-start-at-requires
 start-at-requires c κs = search needs
 
 add-t9 : tie.Need-add-t9
-add-t9 c = let a = c .before .before .before .before .args in omega (arith, c .start-at .ensures, start-small (a .config) (a .server))
+add-t9 c = omega (arith, c .start-at .ensures .1)
 
 returns : tie.Need-returns
 returns c =
-    let a = c .before .before .before .before .args in
     record {
-      held-is = ap₂ _+_ (c .start-at .ensures) (c .before .before .line .ensures .0);
+      held-is = ap₂ _+_ (c .start-at .ensures .0) (c .before .before .line .ensures .0);
       given-is = c .before .line2 .ensures .0;
-      held-small = omega (arith, c .start-at .ensures, start-small (a .config) (a .server));
+      held-small = omega (arith, c .start-at .ensures .1);
       given-small = omega arith;
     }
 

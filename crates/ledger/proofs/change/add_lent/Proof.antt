@@ -49,7 +49,7 @@ room c =
     let most = valid-bounds _ (v .0) .most in
     let b = ledger-told _ (ledger s) (t .sound) in
     let k = lawful-told _ (a .giver) (a .taker) (a .amount) (t .legal) in
-    (omega (arith, most, v .1), omega (arith, most, k .1), spared-small (a .config) (ledger s) (a .giver) (a .amount) (v .0) (b .0) (b .1) (v .1) (t .spared), spared-room (a .config) (ledger s) (a .giver) (a .taker) (a .amount) (v .0) (b .0) (b .1) (v .1) (k .1) (t .counted) (t .spared))
+    (omega (arith, most, v .1), omega (arith, most, k .1), spared-small (a .config) (ledger s) (a .giver) (a .amount) (t .house) (b .0) (b .1) (v .1) (t .spared), spared-room (a .config) (ledger s) (a .giver) (a .taker) (a .amount) (t .house) (b .0) (b .1) (v .1) (k .1) (t .counted) (t .spared))
 
 may-add-requires : tie.Need-may-add-requires
 may-add-requires c κs = search needs

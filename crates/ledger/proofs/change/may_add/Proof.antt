@@ -7,14 +7,14 @@ use borrow.Author.Needs.{needs}
 use borrow.Author.Tests.{not-true, not-false}
 use lib.Dec.{leb}
 use lib.ListN.{getD}
-use Rattle.config.specs.Cluster.{validOf, startOf, leastOf, serverOf}
-use Rattle.config.proofs.Clusters.{server-valid, server-small}
+use Rattle.config.specs.Cluster.{validOf, lawfulOf, startOf, leastOf, serverOf}
+use Rattle.config.proofs.Clusters.{server-valid, server-small, least-told, least-refused}
 use Rattle.ledger.specs.declared.ledger.Ledger.{Ledger}
 use Rattle.ledger.specs.Ledgers.{ledgerOf, countOf, receivedOf, givenOf}
 use Rattle.ledger.specs.Checks.{fits}
 use Rattle.ledger.specs.Changes.{giveVerdict, addAnswer}
 use Rattle.ledger.specs.Sums.{Weighs}
-use Rattle.ledger.proofs.Checks.{check-told, check-refused, ledger-told}
+use Rattle.ledger.proofs.Checks.{fit-told, fit-refused, ledger-told}
 use Rattle.ledger.proofs.Spared.{above-told, spares-rest, add-gives}
 use Rattle.ledger.proofs.change.may_add.Statement.{statement}
 use Rattle.ledger.proofs.change.may_add.Tie as tie
@@ -24,14 +24,17 @@ use Rattle.ledger.proofs.change.may_add.Tie as tie
 abbrev start : tie.Else1 → tie.Start
 start c = c .before .before .before .before
 
-abbrev one-of : tie.After-weigh → tie.Else1
-one-of c = c .before .before .before
+abbrev one-of : tie.After-known-told → tie.Else1
+one-of c = c .before .before .before .before
 
-abbrev weighed : tie.After-enum-told → tie.After-weigh
+abbrev known : tie.After-weigh → tie.After-known-told
+known c = c .before .before .before
+
+abbrev weighed : tie.After-enum-told2 → tie.After-weigh
 weighed c = c .before .before .before .before
 
-abbrev entry : tie.After-enum-told → tie.Start
-entry c = start (one-of (weighed c))
+abbrev entry : tie.After-enum-told2 → tie.Start
+entry c = start (one-of (known (weighed c)))
 
 abbrev ledger : tie.Start → Ledger
 ledger s = ledgerOf (s .args .counts .now) (s .args .cells .now)
@@ -44,16 +47,17 @@ has c = sym (c .before .has .ensures) ∙ not-false _ (c .if1 .left)
 valid : (c : tie.Else1) → (validOf (start c .args .config) ≡ true) × (start c .args .giver < start c .args .config .n)
 valid c = server-valid _ _ (has c)
 
-sound : (c : tie.After-enum-told) → fits (entry c .args .config) (ledger (entry c)) ≡ true
-sound c =
-    let w = weighed c in
-    check-told _ (ledger (entry c)) (sym (w .weigh .ensures .0) ∙ c .enum-told .given .1) .1
+least : (c : tie.After-known-told) → (lawfulOf (start (one-of c) .args .config) ≡ true) × (c .before .least2 .given .0 .0 ≡ leastOf (start (one-of c) .args .config))
+least c = least-told _ _ (sym (c .before .before .before .least .ensures) ∙ c .before .least2 .given .1)
 
-sums : (c : tie.After-enum-told) → Weighs (entry c .args .config) (ledger (entry c)) (weighed c .weigh .last .1 .1 .1 .0) (weighed c .weigh .last .1 .1 .1 .1 .0)
-sums c = weighed c .weigh .ensures .1 (c .enum-told .given .1)
+sound : (c : tie.After-enum-told2) → fits (entry c .args .config) (ledger (entry c)) ≡ true
+sound c = fit-told _ (ledger (entry c)) (sym (weighed c .weigh .ensures .0) ∙ c .enum-told2 .given .1)
 
-small : (c : tie.After-enum-told) → entry c .args .giver < 16
-small c = server-small _ _ (has (one-of (weighed c)))
+sums : (c : tie.After-enum-told2) → Weighs (entry c .args .config) (ledger (entry c)) (weighed c .weigh .last .1 .1 .1 .1 .0) (weighed c .weigh .last .1 .1 .1 .1 .1 .0)
+sums c = weighed c .weigh .ensures .1 (c .enum-told2 .given .1)
+
+small : (c : tie.After-enum-told2) → entry c .args .giver < 16
+small c = server-small _ _ (has (one-of (known (weighed c))))
 
 has-requires : tie.Need-has-requires
 has-requires c κs = search needs
@@ -62,6 +66,21 @@ returns : tie.Need-returns
 unfolding addAnswer
 returns c = simp (sym (c .before .has .ensures) ∙ not-true _ (c .if1 .taken))
 
+least-requires : tie.Need-least-requires
+least-requires c κs = search needs
+
+enum-known-least : tie.Need-enum-known-least
+enum-known-least c = search needs
+
+enum-told : tie.Need-enum-told
+enum-told c = search needs
+
+returns-2 : tie.Need-returns-2
+unfolding addAnswer
+returns-2 c =
+    let l = c .before .before in
+    simp (has (l .before), least-refused _ _ (sym (l .least .ensures) ∙ c .enum-told .given .1) .0)
+
 slice-aggregate-weigh : tie.Need-slice-aggregate-weigh
 slice-aggregate-weigh c = search needs
 
@@ -69,19 +88,20 @@ slice-aggregate-weigh-2 : tie.Need-slice-aggregate-weigh-2
 slice-aggregate-weigh-2 c = search needs
 
 weigh-requires : tie.Need-weigh-requires
-weigh-requires c κs = search needs
-
-enum-told : tie.Need-enum-told
-enum-told c = search needs
+weigh-requires c κs = let k = least (c .before .before) in (search needs, search needs, k .0, k .1, search needs, search needs)
 
 enum-told-2 : tie.Need-enum-told-2
 enum-told-2 c = search needs
 
-returns-2 : tie.Need-returns-2
+enum-told-3 : tie.Need-enum-told-3
+enum-told-3 c = search needs
+
+returns-3 : tie.Need-returns-3
 unfolding addAnswer
-returns-2 c =
+returns-3 c =
     let w = c .before .before .before .before in
-    simp (has (one-of w), check-refused _ (ledger (start (one-of w))) _ (valid (one-of w) .0) (sym (w .weigh .ensures .0) ∙ c .enum-told2 .given .1))
+    let s = start (one-of (known w)) in
+    simp (has (one-of (known w)), least (known w) .0, fit-refused _ (ledger s) _ (sym (w .weigh .ensures .0) ∙ c .enum-told3 .given .1))
 
 mul-may-give : tie.Need-mul-may-give
 mul-may-give c = omega (arith, small c)
@@ -103,30 +123,34 @@ array-read-may-give-2 c = omega (arith, small (c .before), sums (c .before) .giv
 
 -- the giver's sums are those of its ledger
 
-takes : (c : tie.After-enum-told) → getD (weighed c .weigh .last .1 .1 .1 .0) (entry c .args .giver) 0 ≡ receivedOf (ledger (entry c)) (entry c .args .giver)
-takes c = sums c .takes _ (valid (one-of (weighed c)) .1)
+takes : (c : tie.After-enum-told2) → getD (weighed c .weigh .last .1 .1 .1 .1 .0) (entry c .args .giver) 0 ≡ receivedOf (ledger (entry c)) (entry c .args .giver)
+takes c = sums c .takes _ (valid (one-of (known (weighed c))) .1)
 
-gives : (c : tie.After-enum-told) → getD (weighed c .weigh .last .1 .1 .1 .1 .0) (entry c .args .giver) 0 ≡ givenOf (ledger (entry c)) (entry c .args .giver)
-gives c = sums c .gives _ (valid (one-of (weighed c)) .1)
+gives : (c : tie.After-enum-told2) → getD (weighed c .weigh .last .1 .1 .1 .1 .1 .0) (entry c .args .giver) 0 ≡ givenOf (ledger (entry c)) (entry c .args .giver)
+gives c = sums c .gives _ (valid (one-of (known (weighed c))) .1)
 
 may-give-requires : tie.Need-may-give-requires
 may-give-requires c κs =
     let t = c .before in
     let s = entry t in
-    let v = valid (one-of (weighed t)) in
-    (v .0, sums t .takes-small .small _, omega (arith, takes t, gives t, above-told (s .args .config) (ledger s) (s .args .giver) (v .0) (ledger-told _ (ledger s) (sound t) .1) (v .1)))
+    let v = valid (one-of (known (weighed t))) in
+    let k = least (known (weighed t)) in
+    (sums t .takes-small .small _, omega (arith, takes t, gives t, k .1, above-told (s .args .config) (ledger s) (s .args .giver) (v .0) (ledger-told _ (ledger s) (sound t) .1) (v .1)))
 
-returns-3 : tie.Need-returns-3
-returns-3 c =
+returns-4 : tie.Need-returns-4
+returns-4 c =
     let t = c .before .before in
     let s = entry t in
     let a = s .args in
-    let v = valid (one-of (weighed t)) in
+    let v = valid (one-of (known (weighed t))) in
+    let k = least (known (weighed t)) in
     let rest = spares-rest (a .config) (ledger s) (a .giver) (a .amount) (v .0) (ledger-told _ (ledger s) (sound t) .1) (v .1) in
+    let given = giveVerdict (a .config) (a .giver) (a .taker) (a .amount) (countOf (ledger s) (a .giver)) in
     c .may-give .ensures
-    ∙ ap₂ (λ x y. giveVerdict (a .config) (a .giver) (a .taker) (a .amount) (countOf (ledger s) (a .giver)) (leb (a .amount) (startOf (a .config) (a .giver) + x - y - leastOf (a .config)))) (takes t) (gives t)
-    ∙ ap (giveVerdict (a .config) (a .giver) (a .taker) (a .amount) (countOf (ledger s) (a .giver))) rest
-    ∙ add-gives (a .config) (ledger s) (a .giver) (a .taker) (a .amount) (has (one-of (weighed t))) (sound t)
+    ∙ ap (λ z. given (leb (a .amount) (startOf (a .config) (a .giver) + getD (weighed t .weigh .last .1 .1 .1 .1 .0) (a .giver) 0 - getD (weighed t .weigh .last .1 .1 .1 .1 .1 .0) (a .giver) 0 - z))) (k .1)
+    ∙ ap₂ (λ x y. given (leb (a .amount) (startOf (a .config) (a .giver) + x - y - leastOf (a .config)))) (takes t) (gives t)
+    ∙ ap given rest
+    ∙ add-gives (a .config) (ledger s) (a .giver) (a .taker) (a .amount) (has (one-of (known (weighed t)))) (k .0) (sound t)
 
 pub may-add-spec : {M : Type 1} → statement M
 may-add-spec =
@@ -134,12 +158,16 @@ may-add-spec =
     (tie.spec
     has-requires
     returns
+    least-requires
+    enum-known-least
+    enum-told
+    returns-2
     slice-aggregate-weigh
     slice-aggregate-weigh-2
     weigh-requires
-    enum-told
     enum-told-2
-    returns-2
+    enum-told-3
+    returns-3
     mul-may-give
     shared-slice-read-may-give
     mul-may-give-2
@@ -147,4 +175,4 @@ may-add-spec =
     mul-may-give-3
     array-read-may-give-2
     may-give-requires
-    returns-3)
+    returns-4)

@@ -9,7 +9,7 @@ use Prim.Native.Nat.{_+_, _-_, _≤_}
 use Rattle.quorums.specs.Sum.{all}
 use Rattle.quorums.proofs.Sums.{all-none, all-next, all-fails}
 use Rattle.config.specs.Cluster.{aboveOf}
-use Rattle.config.proofs.Clusters.{valid-server, least-small, above-least}
+use Rattle.config.proofs.Clusters.{valid-server, lawful-valid, least-small, above-least}
 use Rattle.ledger.specs.Checks.{aboveFloor, serverAbove}
 use Rattle.ledger.proofs.Lines.{inCells, sides-of}
 use Rattle.ledger.proofs.Answers.{weight-balance}
@@ -27,7 +27,7 @@ loop-holds c = (omega arith, all-none _)
 
 balance-of-requires : tie.Need-balance-of-requires Inv-loop μ-loop
 balance-of-requires c κs =
-    (search needs, valid-server _ _ (c .before .before .before .pre .1) (c .loop-test .taken))
+    (search needs, valid-server _ _ (lawful-valid _ (c .before .before .before .pre .1)) (c .loop-test .taken))
 
 add-if1 : tie.Need-add-if1 Inv-loop μ-loop
 add-if1 c =
@@ -42,7 +42,7 @@ above c =
     let b = c .before .balance-of in
     let sides = sides-of (start .args .config) (inCells (start .args .cells .now)) _ _ _ (b .ensures) in
     ap (aboveOf (start .args .config)) (sym (weight-balance _ _ _ _ _ sides))
-    ∙ above-least (start .args .config) (b .result .held) (b .result .given) (start .pre .1)
+    ∙ above-least (start .args .config) (b .result .held) (b .result .given) (lawful-valid _ (start .pre .1))
     ∙ ap (λ w. leb (b .result .given + w) (b .result .held)) (sym (start .pre .2))
 
 returns : tie.Need-returns Inv-loop μ-loop

@@ -9,7 +9,7 @@ use lib.Dec.{leb}
 use lib.ListN.{getD}
 use Rattle.quorums.specs.Sum.{all}
 use Rattle.quorums.proofs.Sums.{all-none, all-next, all-fails}
-use Rattle.config.proofs.Clusters.{valid-bounds, start-small, least-small}
+use Rattle.config.proofs.Clusters.{lawful-valid, lawful-bounds, least-small}
 use Rattle.ledger.proofs.Weights.{aboveAt, above-at}
 use Rattle.ledger.proofs.sums.above.Statement.{statement}
 use Rattle.ledger.proofs.sums.above.Tie as tie
@@ -32,7 +32,7 @@ abbrev entry : tie.In-loop Inv-loop μ-loop → tie.Start Inv-loop μ-loop
 entry c = c .before .before .before .before
 
 small : (c : tie.In-loop Inv-loop μ-loop) → c .before .loop .i < 16
-small c = omega (arith, c .loop-test .taken, valid-bounds _ (entry c .pre .0) .most)
+small c = omega (arith, c .loop-test .taken, lawful-bounds _ (entry c .pre .0) .most)
 
 -- the test that the program makes
 above : (c : tie.After-start-at Inv-loop μ-loop) →
@@ -41,7 +41,7 @@ above : (c : tie.After-start-at Inv-loop μ-loop) →
     aboveAt (a .config) (a .received .now) (a .given .now) i ≡ leb (getD (a .given .now) i 0 + a .least) (c .start-at .result + getD (a .received .now) i 0)
 above c =
     let s = entry (c .before) in
-    above-at (s .args .config) (s .args .received .now) (s .args .given .now) _ _ _ (s .pre .0) (c .start-at .ensures) (s .pre .1)
+    above-at (s .args .config) (s .args .received .now) (s .args .given .now) _ _ _ (lawful-valid _ (s .pre .0)) (c .start-at .ensures .0) (s .pre .1)
 
 mul-if1 : tie.Need-mul-if1 Inv-loop μ-loop
 mul-if1 c = omega (arith, small (c .before))
@@ -53,7 +53,7 @@ add-if1 : tie.Need-add-if1 Inv-loop μ-loop
 add-if1 c =
     let t = c .before .before in
     let s = entry t in
-    omega (arith, c .before .start-at .ensures, start-small (s .args .config) (t .before .loop .i), s .pre .2 .small (t .before .loop .i))
+    omega (arith, c .before .start-at .ensures .1, s .pre .2 .small (t .before .loop .i))
 
 mul-if1-2 : tie.Need-mul-if1-2 Inv-loop μ-loop
 mul-if1-2 c = omega (arith, small (c .before .before))

@@ -1,35 +1,22 @@
 -- `margin_of` meets its contract: after i turns both sides are the sums over the servers below i that the map names.
 use Prim.Native.Nat.{_+_, _-_, _≤_, _<_}
 use native.Mathlib.Omega.{arith}
-use mathlib.Core.Path.{_≡_, sym, _∙_}
+use mathlib.Core.Path.{_≡_, refl, sym, _∙_}
 use mathlib.Core.Logic.{⊎-elim}
 use borrow.Author.Needs.{needs}
 use lib.ListN.{getD}
-use Rattle.config.specs.Answers.{totalAnswer}
-use Rattle.config.specs.declared.answer.Number.{Number}
+use Rattle.config.specs.Cluster.{totalOf}
 use Rattle.config.proofs.Clusters.{valid-bounds}
 use Rattle.ledger.proofs.Answers.{read-back}
-use Rattle.ledger.proofs.Weights.{total-stands, total-bound, Counted, counted-none, counted-room, counted-named, counted-passed, margin-at}
+use Rattle.ledger.proofs.Weights.{Counted, counted-none, counted-room, counted-named, counted-passed, margin-at}
 use Rattle.ledger.proofs.sums.margin_of.Statement.{statement}
 use Rattle.ledger.proofs.sums.margin_of.Tie as tie
 
 abbrev Inv-loop : tie.InvT-loop
-Inv-loop config received given map total n held₀ gave₀ i₀ held gave i = (i ≤ config .n) × Counted config received given map i held gave
+Inv-loop config received given map n total₀ held₀ gave₀ i₀ total held gave i = (i ≤ config .n) × Counted config received given map i total held gave
 
 abbrev μ-loop : tie.MeasureT-loop
-μ-loop config received given map total n held₀ gave₀ i₀ held gave i = config .n - i
-
-total-requires : tie.Need-total-requires Inv-loop μ-loop
-total-requires c κs = search needs
-
-enum-known-total : tie.Need-enum-known-total Inv-loop μ-loop
-enum-known-total c = search needs
-
-enum-told : tie.Need-enum-told Inv-loop μ-loop
-enum-told c = search needs
-
-returns : tie.Need-returns Inv-loop μ-loop
-returns c = absurd (total-stands _ _ (c .before .before .before .before .before .pre .0) (sym (c .before .before .total .ensures) ∙ c .enum-told .given .1))
+μ-loop config received given map n total₀ held₀ gave₀ i₀ total held gave i = config .n - i
 
 loop-holds : tie.Need-loop-holds Inv-loop μ-loop
 loop-holds c = (omega arith, counted-none _ _ _ _)
@@ -40,7 +27,7 @@ start-at-requires c κs = search needs
 -- the entry, and the turn
 
 abbrev entry : tie.At-loop Inv-loop μ-loop → tie.Start Inv-loop μ-loop
-entry c = c .before .before .before .before .before .before .before
+entry c = c .before .before .before
 
 abbrev turn : tie.After-start-at Inv-loop μ-loop → tie.At-loop Inv-loop μ-loop
 turn c = c .before .before
@@ -52,10 +39,13 @@ small c = omega (arith, c .loop-test .taken, valid-bounds _ (entry (c .before) .
 room : (c : tie.After-start-at Inv-loop μ-loop) →
     let a = entry (turn c) .args in
     let l = turn c .loop in
-    (l .held + c .start-at .result + getD (a .received .now) (l .i) 0 ≤ 1099511883520) × (l .gave + getD (a .given .now) (l .i) 0 ≤ 1099511883520)
+    (l .total + c .start-at .result ≤ 1048560) × (l .held + c .start-at .result + getD (a .received .now) (l .i) 0 ≤ 1099512676080) × (l .gave + getD (a .given .now) (l .i) 0 ≤ 1099512676080)
 room c =
     let s = entry (turn c) in
-    counted-room (turn c .loop .inv .1) (s .pre .1) (s .pre .2) (c .start-at .ensures) (small (c .before))
+    counted-room (turn c .loop .inv .1) (s .pre .1) (s .pre .2) (c .start-at .ensures .0) (c .start-at .ensures .1) (small (c .before))
+
+add-total : tie.Need-add-total Inv-loop μ-loop
+add-total c = omega (arith, room c .0)
 
 names-requires : tie.Need-names-requires Inv-loop μ-loop
 names-requires c κs = small (c .before)
@@ -94,20 +84,17 @@ loop-again c =
     let sums = turn x .loop .inv .1 in
     let named = sym (c .before .names .ensures) in (
       omega (arith, x .before .loop-test .taken),
-      ⊎-elim (λ w. counted-named sums (s .pre .1) (s .pre .2) (x .start-at .ensures) (named ∙ w .0 .taken) (w .3) (w .4))
-          (λ w. counted-passed sums (s .pre .1) (s .pre .2) (x .start-at .ensures) (named ∙ w .0 .left) (w .1) (w .2))
+      ⊎-elim (λ w. counted-named sums (s .pre .1) (s .pre .2) (x .start-at .ensures .0) (x .start-at .ensures .1) (named ∙ w .0 .taken) refl (w .3) (w .4))
+          (λ w. counted-passed sums (s .pre .1) (s .pre .2) (x .start-at .ensures .0) (x .start-at .ensures .1) (named ∙ w .0 .left) refl (w .1) (w .2))
           (c .if1 .came),
     )
 
 -- the sums are small
-bound : (c : tie.After-loop Inv-loop μ-loop) → (c .before .loop .held ≤ 1099511883520) × (c .before .loop .gave ≤ 1099511883520)
+bound : (c : tie.After-loop Inv-loop μ-loop) → (c .before .loop .total ≤ 1048560) × (c .before .loop .held ≤ 1099512676080) × (c .before .loop .gave ≤ 1099512676080)
 bound c =
     let most = valid-bounds _ (entry (c .before) .pre .0) .most in
     let all = c .before .loop .inv .1 in
-    (omega (arith, all .held-small), omega (arith, all .gave-small))
-
-total-is : (c : tie.After-known-told Inv-loop μ-loop) → totalAnswer (c .before .before .before .before .before .before .args .config) ≡ Number.Value (c .before .total2 .given .0 .0)
-total-is c = sym (c .before .before .before .total .ensures) ∙ c .before .total2 .given .1
+    (omega (arith, all .total-small), omega (arith, all .held-small), omega (arith, all .gave-small))
 
 mul-difference : tie.Need-mul-difference Inv-loop μ-loop
 mul-difference c = omega (arith, bound c)
@@ -116,21 +103,22 @@ mul-difference-2 : tie.Need-mul-difference-2 Inv-loop μ-loop
 mul-difference-2 c = omega (arith, bound c)
 
 add-difference : tie.Need-add-difference Inv-loop μ-loop
-add-difference c = omega (arith, bound c, total-bound _ _ (total-is (c .before .before)))
+add-difference c = omega (arith, bound c)
 
 difference-requires : tie.Need-difference-requires Inv-loop μ-loop
-difference-requires c κs = omega (arith, bound c, total-bound _ _ (total-is (c .before .before)))
+difference-requires c κs = omega (arith, bound c)
 
-returns-2 : tie.Need-returns-2 Inv-loop μ-loop
-returns-2 c =
+returns : tie.Need-returns Inv-loop μ-loop
+unfolding totalOf
+returns c =
     let end = c .before in
     let a = entry (end .before) .args in
     let l = end .before .loop in
     let e : l .i ≡ a .config .n = omega arith in
-    let all : Counted (a .config) (a .received .now) (a .given .now) (a .map) (a .config .n) (l .held) (l .gave) = rw e at (l .inv .1) in
+    let all : Counted (a .config) (a .received .now) (a .given .now) (a .map) (a .config .n) (l .total) (l .held) (l .gave) = rw e at (l .inv .1) in
     read-back (c .difference .result) (c .difference .ok)
     ∙ c .difference .ensures
-    ∙ margin-at (a .config) (a .received .now) (a .given .now) (a .map) _ _ _ (total-is (end .before .before)) (all .held-is) (all .gave-is)
+    ∙ margin-at (a .config) (a .received .now) (a .given .now) (a .map) _ _ _ (all .total-is) (all .held-is) (all .gave-is)
 
 pub margin-of-spec : {M : Type 1} → statement M
 margin-of-spec =
@@ -138,12 +126,9 @@ margin-of-spec =
     (tie.spec
     Inv-loop
     μ-loop
-    total-requires
-    enum-known-total
-    enum-told
-    returns
     loop-holds
     start-at-requires
+    add-total
     names-requires
     add-held
     mul-held
@@ -159,4 +144,4 @@ margin-of-spec =
     mul-difference-2
     add-difference
     difference-requires
-    returns-2)
+    returns)

@@ -1,15 +1,20 @@
 -- `weigh_lent` meets its contract: where the test accepts the ledger, its sums are those of the ledger, and so is a margin by them.
 use mathlib.Core.Path.{_≡_, refl, sym, ap, _∙_}
+use mathlib.Core.Bool.{true}
 use borrow.Author.Needs.{needs}
+use borrow.Author.Tests.{not-true, not-false}
 use lib.IntN.{ℤ}
+use Rattle.config.specs.Refusals.{refusal}
+use Rattle.config.specs.Cluster.{validOf, lawfulOf, leastOf}
+use Rattle.config.proofs.Clusters.{lawful-valid, least-told, least-refused}
 use Rattle.config.specs.declared.answer.Verdict.{Verdict}
 use Rattle.ledger.specs.declared.ledger.Ledger.{Ledger}
 use Rattle.ledger.specs.declared.sums.Weighed.{Weighed}
 use Rattle.ledger.specs.Ledgers.{ledgerOf}
-use Rattle.ledger.specs.Checks.{checkAnswer}
+use Rattle.ledger.specs.Checks.{fitAnswer, checkAnswer}
 use Rattle.ledger.specs.Sums.{Weighs, weighedOf}
 use Rattle.ledger.proofs.Answers.{read-back}
-use Rattle.ledger.proofs.Checks.{check-told}
+use Rattle.ledger.proofs.Checks.{check-lawful}
 use Rattle.ledger.proofs.Weights.{weighs-margin}
 use Rattle.ledger.proofs.sums.weigh_lent.Statement.{statement}
 use Rattle.ledger.proofs.sums.weigh_lent.Tie as tie
@@ -17,26 +22,61 @@ use Rattle.ledger.proofs.sums.weigh_lent.Tie as tie
 abbrev weighing : Verdict → ℤ → Weighed
 weighing v y = record { verdict = v; margin = y }
 
+-- ---- the way back from each test
+
+abbrev start : tie.After-known-told → tie.Start
+start c = c .before .before .before .before .before .before
+
+abbrev known : tie.After-weigh → tie.After-known-told
+known c = c .before .before .before .before .before
+
 abbrev entry : tie.After-weigh → tie.Start
-entry c = c .before .before .before .before .before
+entry c = start (known c)
 
-abbrev ledger : tie.After-weigh → Ledger
-ledger c = ledgerOf (entry c .args .counts .now) (entry c .args .cells .now)
+abbrev ledger : tie.Start → Ledger
+ledger s = ledgerOf (s .args .counts .now) (s .args .cells .now)
 
-abbrev weighed : tie.After-enum-told → tie.After-weigh
+abbrev weighed : tie.After-enum-told2 → tie.After-weigh
 weighed c = c .before .before .before .before
 
-abbrev accepting : tie.After-given3 → tie.After-enum-told
+abbrev accepting : tie.After-given3 → tie.After-enum-told2
 accepting c = c .before .before
 
--- what the test tells where it accepts the ledger
+valid-requires : tie.Need-valid-requires
+valid-requires c κs = search needs
 
-told : (c : tie.After-enum-told) → checkAnswer (entry (weighed c) .args .config) (ledger (weighed c)) ≡ Verdict.Accepted
-told c = sym (weighed c .weigh .ensures .0) ∙ c .enum-told .given .1
+unweighed-requires : tie.Need-unweighed-requires
+unweighed-requires c κs = search needs
 
-sums : (c : tie.After-enum-told)
-    → Weighs (entry (weighed c) .args .config) (ledger (weighed c)) (weighed c .weigh .last .1 .1 .1 .0) (weighed c .weigh .last .1 .1 .1 .1 .0)
-sums c = weighed c .weigh .ensures .1 (c .enum-told .given .1)
+returns : tie.Need-returns
+unfolding weighedOf checkAnswer
+returns c = c .unweighed .ensures ∙ rw (sym (c .before .before .valid .ensures) ∙ not-true _ (c .before .if1 .taken)) refl
+
+-- n and f are within bounds
+within : (c : tie.Else1) → validOf (c .before .before .args .config) ≡ true
+within c = sym (c .before .valid .ensures) ∙ not-false _ (c .if1 .left)
+
+least-requires : tie.Need-least-requires
+least-requires c κs = search needs
+
+enum-known-least : tie.Need-enum-known-least
+enum-known-least c = search needs
+
+enum-told : tie.Need-enum-told
+enum-told c = search needs
+
+unweighed-requires-2 : tie.Need-unweighed-requires-2
+unweighed-requires-2 c κs = search needs
+
+returns-2 : tie.Need-returns-2
+unfolding weighedOf checkAnswer
+returns-2 c =
+    let l = c .before .before .before in
+    c .unweighed2 .ensures ∙ rw (within (l .before), least-refused _ _ (sym (l .least .ensures) ∙ c .before .enum-told .given .1) .0) refl
+
+-- and the least weight is told
+least : (c : tie.After-known-told) → (lawfulOf (start c .args .config) ≡ true) × (c .before .least2 .given .0 .0 ≡ leastOf (start c .args .config))
+least c = least-told _ _ (sym (c .before .before .before .least .ensures) ∙ c .before .least2 .given .1)
 
 slice-aggregate-weigh : tie.Need-slice-aggregate-weigh
 slice-aggregate-weigh c = search needs
@@ -45,10 +85,19 @@ slice-aggregate-weigh-2 : tie.Need-slice-aggregate-weigh-2
 slice-aggregate-weigh-2 c = search needs
 
 weigh-requires : tie.Need-weigh-requires
-weigh-requires c κs = search needs
+weigh-requires c κs = let k = least (c .before .before .before .before) in (search needs, search needs, k .0, k .1, search needs, search needs)
 
-enum-told : tie.Need-enum-told
-enum-told c = search needs
+enum-told-2 : tie.Need-enum-told-2
+enum-told-2 c = search needs
+
+-- what the test tells
+
+check : (c : tie.After-weigh) → checkAnswer (entry c .args .config) (ledger (entry c)) ≡ c .weigh .result
+check c = check-lawful _ _ (least (known c) .0) ∙ sym (c .weigh .ensures .0)
+
+sums : (c : tie.After-enum-told2)
+    → Weighs (entry (weighed c) .args .config) (ledger (entry (weighed c))) (weighed c .weigh .last .1 .1 .1 .1 .0) (weighed c .weigh .last .1 .1 .1 .1 .1 .0)
+sums c = weighed c .weigh .ensures .1 (c .enum-told2 .given .1)
 
 slice-aggregate-margin-of : tie.Need-slice-aggregate-margin-of
 slice-aggregate-margin-of c = search needs
@@ -59,35 +108,47 @@ slice-aggregate-margin-of-2 c = search needs
 margin-of-requires : tie.Need-margin-of-requires
 margin-of-requires c κs =
     let t = accepting c in
-    (check-told _ _ (told t) .0, sums t .takes-small, sums t .gives-small)
+    (lawful-valid _ (least (known (weighed t)) .0), sums t .takes-small, sums t .gives-small)
 
 enum-known-r : tie.Need-enum-known-r
 enum-known-r c = search needs
 
-returns : tie.Need-returns
+unweighed-requires-3 : tie.Need-unweighed-requires-3
+unweighed-requires-3 c κs = search needs
+
+returns-3 : tie.Need-returns-3
 unfolding weighedOf
-returns c =
+returns-3 c =
     let t = accepting (c .before) in
     let exact = read-back (c .margin-of .result) (c .margin-of .ok) ∙ c .margin-of .ensures ∙ weighs-margin _ _ _ _ _ (sums t) in
-    rw (told t) (ap (λ y. weighing Verdict.Accepted y) exact)
+    rw (check (weighed t) ∙ t .enum-told2 .given .1) (ap (λ y. weighing Verdict.Accepted y) exact)
 
-returns-2 : tie.Need-returns-2
+returns-4 : tie.Need-returns-4
 unfolding weighedOf
-returns-2 c =
-    let w = c .before .before .before .before .before in
-    rw (sym (w .weigh .ensures .0) ∙ c .before .r .given .1) refl
+returns-4 c =
+    let w = c .before .before .before .before .before .before in
+    c .unweighed3 .ensures ∙ rw (check w ∙ c .before .before .r .given .1) refl
 
 pub weigh-lent-spec : {M : Type 1} → statement M
 weigh-lent-spec =
     tie.close
     (tie.spec
+    valid-requires
+    unweighed-requires
+    returns
+    least-requires
+    enum-known-least
+    enum-told
+    unweighed-requires-2
+    returns-2
     slice-aggregate-weigh
     slice-aggregate-weigh-2
     weigh-requires
-    enum-told
+    enum-told-2
     slice-aggregate-margin-of
     slice-aggregate-margin-of-2
     margin-of-requires
     enum-known-r
-    returns
-    returns-2)
+    unweighed-requires-3
+    returns-3
+    returns-4)

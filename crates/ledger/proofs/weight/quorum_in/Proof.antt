@@ -5,7 +5,7 @@ use mathlib.Core.Path.{_≡_, sym, ap, _∙_}
 use mathlib.Core.Bool.{true, false}
 use borrow.Author.Needs.{needs}
 use borrow.Author.Tests.{not-true, not-false}
-use Rattle.config.specs.Cluster.{totalOf}
+use Rattle.config.specs.Cluster.{lawfulOf, totalOf}
 use Rattle.config.proofs.Clusters.{total-small, total-told, total-refused}
 use Rattle.quorums.specs.Difference.{difference}
 use Rattle.config.specs.declared.answer.Signed.{Signed}
@@ -41,10 +41,8 @@ enum-told : tie.Need-enum-told
 enum-told c = search needs
 
 returns-2 : tie.Need-returns-2
-returns-2 c =
-    let no : false ≡ true = sym (total-refused _ _ (sym (c .before .before .total .ensures) ∙ c .enum-told .given .1)) ∙ map-valid _ _ (in-cluster (c .before .before .before)) .0 in
-    let z : _≡_ {A = ℕ} 0 1 = cc in
-    absurd (omega arith)
+unfolding quorumAnswer
+returns-2 c = simp (in-cluster (c .before .before .before), total-refused _ _ (sym (c .before .before .total .ensures) ∙ c .enum-told .given .1) .0)
 
 abbrev tested : tie.After-known-told → tie.Else1
 tested c = c .before .before .before .before
@@ -55,8 +53,8 @@ start c = tested c .before .before .before
 mapped : (c : tie.After-known-told) → mapOf (start c .args .config) (start c .args .map) ≡ true
 mapped c = in-cluster (tested c)
 
-total-is : (c : tie.After-known-told) → c .before .total2 .given .0 .0 ≡ totalOf (start c .args .config)
-total-is c = total-told _ _ (sym (c .before .before .before .total .ensures) ∙ c .before .total2 .given .1) .1
+total : (c : tie.After-known-told) → (lawfulOf (start c .args .config) ≡ true) × (c .before .total2 .given .0 .0 ≡ totalOf (start c .args .config))
+total c = total-told _ _ (sym (c .before .before .before .total .ensures) ∙ c .before .total2 .given .1)
 
 balance-in-requires : tie.Need-balance-in-requires
 balance-in-requires c κs = (start c .pre, map-valid _ _ (mapped c) .0)
@@ -67,12 +65,12 @@ mul-difference c = search needs
 mul-difference-2 : tie.Need-mul-difference-2
 mul-difference-2 c = search needs
 
-small : (c : tie.After-struct-known2) → (c .before .before .balance-in .result .held ≤ 1099511883520) × (c .before .before .balance-in .result .given ≤ 1099511883520) × (c .before .before .before .before .total2 .given .0 .0 ≤ 16000)
+small : (c : tie.After-struct-known2) → (c .before .before .balance-in .result .held ≤ 1099512676080) × (c .before .before .balance-in .result .given ≤ 1099512676080) × (c .before .before .before .before .total2 .given .0 .0 ≤ 16000)
 small c =
     let known = c .before .before .before in (
       c .before .before .balance-in .ensures .held-small,
       c .before .before .balance-in .ensures .given-small,
-      rw (total-is known) (total-small _ (map-valid _ _ (mapped known) .0)),
+      rw (total known .1) (total-small _ (total known .0)),
     )
 
 add-difference : tie.Need-add-difference
@@ -86,11 +84,11 @@ unfolding quorumAnswer
 returns-3 c =
     let known = c .before .before .before .before in
     let b = c .before .before .before .balance-in in
-    simp (mapped known)
+    simp (mapped known, total known .0)
     (ap Signed.Value
     (read-back (c .difference .result) (c .difference .ok)
     ∙ c .difference .ensures
-    ∙ ap (λ w. difference (2 * b .result .held) (2 * b .result .given + w)) (total-is known)
+    ∙ ap (λ w. difference (2 * b .result .held) (2 * b .result .given + w)) (total known .1)
     ∙ margin-balance _ _ _ _ _ (sides-in _ (inCells (start known .args .cells .now)) _ _ _ _ (b .ensures))))
 
 pub quorum-in-spec : {M : Type 1} → statement M

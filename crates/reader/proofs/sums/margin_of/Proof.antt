@@ -57,7 +57,7 @@ small c = omega (arith, c .loop-test .taken, valid-bounds _ (entry (c .before) .
 room : (c : tie.After-start-at Inv-loop μ-loop) →
     let a = entry (turn c) .args in
     let l = turn c .loop in
-    (l .held + c .start-at .result + getD (a .received .now) (l .i) 0 ≤ 1099511883520) × (l .gave + getD (a .given .now) (l .i) 0 ≤ 1099511883520)
+    (l .held + c .start-at .result + getD (a .received .now) (l .i) 0 ≤ 1099512676080) × (l .gave + getD (a .given .now) (l .i) 0 ≤ 1099512676080)
 room c =
     let s = entry (turn c) in
     counted-room (turn c .loop .inv .1) (s .pre .1) (s .pre .2) (c .start-at .ensures) (small (c .before))
@@ -106,7 +106,7 @@ loop-again c =
     )
 
 -- the sums are small
-bound : (c : tie.After-loop Inv-loop μ-loop) → (c .before .loop .held ≤ 1099511883520) × (c .before .loop .gave ≤ 1099511883520)
+bound : (c : tie.After-loop Inv-loop μ-loop) → (c .before .loop .held ≤ 1099512676080) × (c .before .loop .gave ≤ 1099512676080)
 bound c =
     let most = valid-bounds _ (entry (c .before) .pre .0) .most in
     let all = c .before .loop .inv .1 in

@@ -86,4 +86,3 @@ least-spec =
     starts-fit-requires
     returns-3
     returns-4)
-

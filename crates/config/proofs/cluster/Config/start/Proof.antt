@@ -20,9 +20,10 @@ lawful-requires c κs = search needs
 returns-2 : tie.Need-returns-2
 unfolding startAnswer
 returns-2 c =
-    simp
-    (sym (c .before .before .before .has .ensures) ∙ not-false _ (c .before .before .if1 .left),
-    sym (c .before .lawful .ensures) ∙ not-true _ (c .if2 .taken))
+    simp (
+      sym (c .before .before .before .has .ensures) ∙ not-false _ (c .before .before .if1 .left),
+      sym (c .before .lawful .ensures) ∙ not-true _ (c .if2 .taken),
+    )
 
 start-at-requires : tie.Need-start-at-requires
 start-at-requires c κs = search needs
@@ -30,10 +31,11 @@ start-at-requires c κs = search needs
 returns-3 : tie.Need-returns-3
 unfolding startAnswer
 returns-3 c =
-    simp
-    (sym (c .before .before .before .before .has .ensures) ∙ not-false _ (c .before .before .before .if1 .left),
-    sym (c .before .before .lawful .ensures) ∙ not-false _ (c .before .if2 .left))
-    (ap Number.Value (c .start-at .ensures))
+    simp (
+      sym (c .before .before .before .before .has .ensures) ∙ not-false _ (c .before .before .before .if1 .left),
+      sym (c .before .before .lawful .ensures) ∙ not-false _ (c .before .if2 .left),
+    )
+    (ap Number.Value (c .start-at .ensures .0))
 
 pub start-spec : {M : Type 1} → statement M
 start-spec =
