@@ -8,10 +8,10 @@ use mathlib.Core.List.{List, [], _∷_, _++_, append-assoc, append-nil}
 use borrow.Author.Tests.{ltb-true, ltb-false, eq-eqb}
 use lib.Dec.{ltb}
 use lib.ListN.{length, getD}
-use Rattle.config.specs.Cluster.{validOf}
+use Rattle.config.specs.Cluster.{lawfulOf, clusterFault}
 use Rattle.config.specs.declared.cluster.Config.{Config}
 use Rattle.config.specs.declared.answer.Verdict.{Verdict}
-use Rattle.config.proofs.Clusters.{valid-bounds}
+use Rattle.config.proofs.Clusters.{lawful-bounds}
 use Rattle.ledger.specs.declared.ledger.Ledger.{Ledger}
 use Rattle.ledger.specs.Ledgers.{countOf, cellOf}
 use Rattle.ledger.specs.Checks.{bounded, aboveFloor}
@@ -40,7 +40,7 @@ use Rattle.message.proofs.Heads as heads
 use Rattle.message.proofs.Registers as registers
 use Rattle.message.proofs.Sheets as sheets
 
-module _ (c : Config) (e : Envelope) (p : Replica) (te : Typed e) (tp : TypedReplica p) (valid : validOf c ≡ true) where
+module _ (c : Config) (e : Envelope) (p : Replica) (te : Typed e) (tp : TypedReplica p) (valid : lawfulOf c ≡ true) where
   mark : ℕ
   mark = registerMark (p .register .stamp) (p .register .desk) (length (carried p))
 
@@ -136,7 +136,7 @@ module _ (c : Config) (e : Envelope) (p : Replica) (te : Typed e) (tp : TypedRep
   unfolding registerCursor sheetBytes
   at-sheet =
       record {
-        small = valid-bounds c valid .most;
+        small = lawful-bounds c valid .most;
         typed = tp .ledger-typed;
         stands-there = behind-stands (headBytes ++ registerBytes) 0;
         ahead = ahead-sheet;
@@ -298,7 +298,7 @@ module _ (c : Config) (e : Envelope) (p : Replica) (te : Typed e) (tp : TypedRep
           → scanOf c (messageOf c e p) .number ≡ test s 4 (test registerTest 4 (test boundsTest 4 (test floorTest 5 0)))
       by-server w k true s = by-register (record { kind-good = w; fields-good = k; server-good = ltb-true _ _ s }) registerTest refl
       by-server w k false s =
-          scan-stuck-head c _ 3 (heads.server-refused c _ _ _ _ _ _ _ _ _ at-head (valid-bounds c valid .some) w k (ltb-false _ _ s))
+          scan-stuck-head c _ 3 (heads.server-refused c _ _ _ _ _ _ _ _ _ at-head (lawful-bounds c valid .some) w k (ltb-false _ _ s))
 
       by-fields : kindTest ≡ true → (k : Bool) → fieldsTest ≡ k
           → scanOf c (messageOf c e p) .number ≡ test k 3 (test serverTest 4 (test registerTest 4 (test boundsTest 4 (test floorTest 5 0))))
@@ -314,11 +314,11 @@ module _ (c : Config) (e : Envelope) (p : Replica) (te : Typed e) (tp : TypedRep
 -- the writer's number is the reader's
 pub fault-is-check : (c : Config) (e : Envelope) (p : Replica) → Typed e → TypedReplica p → check c (messageOf c e p) ≡ faultOf c e p
 unfolding check faultOf kindTest fieldsTest serverTest registerTest boundsTest floorTest
-fault-is-check c e p te tp = by-valid (validOf c) refl
+fault-is-check c e p te tp = by-valid (lawfulOf c) refl
   where
-    by-valid : (b : Bool) → validOf c ≡ b
-        → cond b (scanOf c (messageOf c e p) .number) 1
-        ≡ test b 1
+    by-valid : (b : Bool) → lawfulOf c ≡ b
+        → cond b (scanOf c (messageOf c e p) .number) (clusterFault c)
+        ≡ test b (clusterFault c)
         (test (within 1 3 (e .kind)) 4
         (test (kindFits (e .kind) (e .desk) (e .round) (e .note)) 3
         (test (ltb (e .server) (c .n)) 4

@@ -8,7 +8,8 @@ use mathlib.Core.List.{List}
 use borrow.Author.Tests.{ltb-true, eq-eqb}
 use lib.Dec.{ltb}
 use Rattle.quorums.proofs.Tests.{both, test-false}
-use Rattle.config.specs.Cluster.{validOf}
+use Rattle.config.specs.Cluster.{lawfulOf, clusterFault}
+use Rattle.config.proofs.Clusters.{fault-some}
 use Rattle.config.specs.declared.cluster.Config.{Config}
 use Rattle.config.specs.declared.answer.Number.{Number}
 use Rattle.config.specs.declared.answer.Verdict.{Verdict}
@@ -29,6 +30,14 @@ use Rattle.message.specs.Faults.{kindFits, lawful, test, faultOf, sendOf
 use Rattle.message.proofs.Faults.{HeadGood, message-found, fault-is-check}
 use Rattle.message.proofs.Lawful.{lawful-told, told-lawful}
 
+-- a lawful cluster, and no fault after it
+housed : (c : Config) (r : ℕ) → test (lawfulOf c) (clusterFault c) r ≡ 0 → (lawfulOf c ≡ true) × (r ≡ 0)
+housed c r e = by-lawful (lawfulOf c) refl
+  where
+    by-lawful : (b : Bool) → lawfulOf c ≡ b → (lawfulOf c ≡ true) × (r ≡ 0)
+    by-lawful true v = (v, rw v at e)
+    by-lawful false v = absurd (omega (arith, rw v at e, fault-some c v .0))
+
 passed : (b : Bool) (k r : ℕ) → test b (suc k) r ≡ 0 → (b ≡ true) × (r ≡ 0)
 passed true k r e = (refl, e)
 passed false k r e = absurd (omega arith)
@@ -38,15 +47,15 @@ module _ (c : Config) (e : Envelope) (r : Replica) where
   faultless : faultOf c e r ≡ 0 → (lawful c e ≡ true) × (fits c r ≡ true)
   unfolding faultOf
   faultless none =
-      let valid = passed (validOf c) 0 _ none in
-      let kind = passed (within 1 3 (e .kind)) 3 _ (valid .1) in
+      let house = housed c _ none in
+      let kind = passed (within 1 3 (e .kind)) 3 _ (house .1) in
       let fields = passed (kindFits (e .kind) (e .desk) (e .round) (e .note)) 2 _ (kind .1) in
       let server = passed (ltb (e .server) (c .n)) 3 _ (fields .1) in
       let register = passed (registerFits c (r .register)) 3 _ (server .1) in
       let bounds = passed (bounded c (r .ledger)) 3 _ (register .1) in
       let floor = passed (aboveFloor c (r .ledger)) 4 0 (bounds .1) in (
         told-lawful c e (record { kind-good = kind .0; fields-good = fields .0; server-good = server .0 }),
-        told-fits c r (record { valid = valid .0; ledger-bounded = bounds .0; ledger-above = floor .0; register-fits = register .0 }),
+        told-fits c r (record { lawful = house .0; ledger-bounded = bounds .0; ledger-above = floor .0; register-fits = register .0 }),
       )
 
   no-fault : lawful c e ≡ true → fits c r ≡ true → faultOf c e r ≡ 0
@@ -54,7 +63,7 @@ module _ (c : Config) (e : Envelope) (r : Replica) where
   no-fault l f =
       let k = lawful-told c e l in
       let g = fits-told c r f in
-      simp (g .valid, k .kind-good, k .fields-good, k .server-good, g .register-fits, g .ledger-bounded, g .ledger-above)
+      simp (g .lawful, k .kind-good, k .fields-good, k .server-good, g .register-fits, g .ledger-bounded, g .ledger-above)
 
   -- what a party sends: the message where there is no fault, else 1
 
@@ -74,7 +83,7 @@ module _ (c : Config) (e : Envelope) (r : Replica) where
   unfolding sendOf
   sends-held l out at = simp l
 
-  long-fault : validOf c ≡ true → lawful c e ≡ true → mostValue < r .register .value .length → faultOf c e r ≡ 4
+  long-fault : lawfulOf c ≡ true → lawful c e ≡ true → mostValue < r .register .value .length → faultOf c e r ≡ 4
   unfolding faultOf
   long-fault valid l long =
       let k = lawful-told c e l in
@@ -96,12 +105,12 @@ module _ (c : Config) (e : Envelope) (r : Replica) (te : Typed e) (tr : TypedRep
       let t = taken-told .0 clean in
       let k = lawful-told c e (t .0) in
       let g = fits-told c r (t .1) in
-      let head : HeadGood c e r te tr (g .valid) =
+      let head : HeadGood c e r te tr (g .lawful) =
       record { kind-good = k .kind-good; fields-good = k .fields-good; server-good = ltb-true _ _ (k .server-good) } in
-      simp (eq-eqb (check c (messageOf c e r)) 0 clean) (message-found c e r te tr (g .valid) head (g .register-fits) (g .ledger-bounded))
+      simp (eq-eqb (check c (messageOf c e r)) 0 clean) (message-found c e r te tr (g .lawful) head (g .register-fits) (g .ledger-bounded))
 
   -- a register of more than 64 bytes is not written, nor cut to be: it is 4, and the buffer is as it was
-  pub long-refused : (out : List ℕ) (at : ℕ) → validOf c ≡ true → lawful c e ≡ true → mostValue < r .register .value .length
+  pub long-refused : (out : List ℕ) (at : ℕ) → lawfulOf c ≡ true → lawful c e ≡ true → mostValue < r .register .value .length
       → writeOf c e r out at ≡ record { answer = Number.Refused (refusal 4); out = out }
   unfolding writeOf
   long-refused out at valid l long = simp (fault-is-check c e r te tr ∙ long-fault c e r valid l long)

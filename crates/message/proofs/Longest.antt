@@ -11,7 +11,7 @@ use Rattle.quorums.specs.Sum.{sum, all}
 use Rattle.quorums.specs.Difference.{difference}
 use Rattle.quorums.specs.Accounts.{weight, above}
 use Rattle.quorums.proofs.Sums.{sum-le, sum-const, below-suc}
-use Rattle.config.specs.Cluster.{level, validOf, startOf, totalOf, aboveOf, stampBytes, mostStamp}
+use Rattle.config.specs.Cluster.{level, lawfulOf, startOf, totalOf, aboveOf, stampBytes, mostStamp, configOf, validOf, endsOf, startsAbove, keptOf, keeps}
 use Rattle.config.specs.declared.cluster.Config.{Config}
 use Rattle.ledger.specs.declared.ledger.Ledger.{Ledger}
 use Rattle.ledger.specs.Ledgers.{countOf, cellOf, givenOf, receivedOf}
@@ -100,7 +100,7 @@ longest c msg b e =
 -- ---- a message of 1,111 bytes: 16 servers, each of which gave 1 to each other one; a request with every field, and a value of 64 bytes
 
 pub crowd : Config
-crowd = level 16 7
+crowd = configOf (level 16 7)
 
 exchanged : Ledger
 exchanged = record { counts = table 16 (λ i. 15); cells = table 256 (λ k. cond (eqb (k / 16) (k % 16)) 0 1) }
@@ -151,7 +151,7 @@ full-replica =
     replicate-most (suc n) x (suc k) = replicate-most n x k
 
 full-taken : faultOf crowd fullEnvelope fullReplica ≡ 0
-unfolding crowd fullEnvelope fullReplica exchanged faultOf validOf kindFits registerFits isStart valueFits mostStamp stampBytes within bounded aboveFloor all mayHold totalFits givenOf sum table
+unfolding crowd fullEnvelope fullReplica exchanged faultOf lawfulOf validOf endsOf startsAbove keptOf keeps kindFits registerFits isStart valueFits mostStamp stampBytes within bounded aboveFloor all mayHold totalFits givenOf sum table
     run aboveOf above totalOf startOf weightOf weight difference receivedOf
 full-taken = refl
 

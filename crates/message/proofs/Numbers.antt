@@ -8,7 +8,8 @@ use borrow.Author.Tests.{eq-eqb, ne-eqb, eqb-true}
 use lib.Dec.{eqb, leb}
 use lib.ListN.{length}
 use Rattle.quorums.proofs.Tests.{chosen-first, chosen-second}
-use Rattle.config.specs.Cluster.{validOf}
+use Rattle.config.specs.Cluster.{lawfulOf, clusterFault}
+use Rattle.config.proofs.Clusters.{fault-some}
 use Rattle.config.specs.Refusals.{numberOf, refusal}
 use Rattle.config.proofs.Refusals.{number-back}
 use Rattle.config.specs.declared.cluster.Config.{Config}
@@ -84,13 +85,13 @@ scan-most c msg =
     (require-most _ 2 _ (omega arith)
     (number-most msg _ _ _ _ _ (sheet-most c msg _ _ (register-most c msg _ _ (head-most c msg)))))
 
-pub check-most : (c : Config) (msg : List ℕ) → check c msg ≤ 5
+pub check-most : (c : Config) (msg : List ℕ) → check c msg ≤ 15
 unfolding check
-check-most c msg = by-valid (validOf c)
+check-most c msg = by-lawful (lawfulOf c) refl
   where
-    by-valid : (v : Bool) → cond v (scanOf c msg .number) 1 ≤ 5
-    by-valid true = scan-most c msg
-    by-valid false = omega arith
+    by-lawful : (v : Bool) → lawfulOf c ≡ v → cond v (scanOf c msg .number) (clusterFault c) ≤ 15
+    by-lawful true v = omega (arith, scan-most c msg)
+    by-lawful false v = fault-some c v .1
 
 -- ---- the answer
 

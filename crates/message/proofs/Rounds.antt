@@ -10,9 +10,9 @@ use lib.Dec.{eqb, ltb}
 use lib.ListN.{length, getD, take, drop, length-take, List·getD-eq-default}
 use lib.Seq.{take-length, getD-take, getD-drop}
 use Rattle.quorums.proofs.Tests.{both, le-or-lt}
-use Rattle.config.specs.Cluster.{validOf}
+use Rattle.config.specs.Cluster.{lawfulOf, clusterFault}
 use Rattle.config.specs.declared.cluster.Config.{Config}
-use Rattle.config.proofs.Clusters.{valid-bounds}
+use Rattle.config.proofs.Clusters.{lawful-bounds, fault-some}
 use Rattle.ledger.specs.declared.ledger.Ledger.{Ledger}
 use Rattle.ledger.specs.Ledgers.{countOf, cellOf}
 use Rattle.format.specs.Bytes.{number, stands, bit}
@@ -78,7 +78,7 @@ part-bytes msg b w a =
           (le-or-lt w k);
     }
 
-module _ (c : Config) (valid : validOf c ≡ true) (msg : List ℕ) (b : Bytes msg) (e : scanOf c msg .number ≡ 0) where
+module _ (c : Config) (valid : lawfulOf c ≡ true) (msg : List ℕ) (b : Bytes msg) (e : scanOf c msg .number ≡ 0) where
   map : ℕ
   map = headOf c msg .map
 
@@ -143,7 +143,7 @@ module _ (c : Config) (valid : validOf c ≡ true) (msg : List ℕ) (b : Bytes m
 
   sheet-is : SheetBack c msg (bit map 5) registerEnd (headBytes ++ registerBytes) ledger
   unfolding ledger sheetEnd
-  sheet-is = sheet-back c (valid-bounds c valid .most) msg b (bit map 5) (bit-le map 5) registerEnd (headBytes ++ registerBytes) register-passed sheet-clean
+  sheet-is = sheet-back c (lawful-bounds c valid .most) msg b (bit map 5) (bit-le map 5) registerEnd (headBytes ++ registerBytes) register-passed sheet-clean
 
   sheetBytes : List ℕ
   sheetBytes = sheet (countOf ledger) (cellOf ledger)
@@ -235,7 +235,7 @@ module _ (c : Config) (valid : validOf c ≡ true) (msg : List ℕ) (b : Bytes m
   found-typed = (
     record {
       kind-fits = omega (arith, head-is .kind-fits);
-      server-fits = omega (arith, head-is .server-fits, valid-bounds c valid .most);
+      server-fits = omega (arith, head-is .server-fits, lawful-bounds c valid .most);
       desk-fits = head-is .desk-fits;
       round-fits = head-is .round-fits;
       note-fits = note-got .high-holds;
@@ -256,13 +256,13 @@ module _ (c : Config) (valid : validOf c ≡ true) (msg : List ℕ) (b : Bytes m
   scan-typed = rw (envelope-is, replica-is) found-typed
 
 -- where the reader finds no fault, the cluster is lawful and the scan has passed
-pub check-told : (c : Config) (msg : List ℕ) → check c msg ≡ 0 → (validOf c ≡ true) × (scanOf c msg .number ≡ 0)
+pub check-told : (c : Config) (msg : List ℕ) → check c msg ≡ 0 → (lawfulOf c ≡ true) × (scanOf c msg .number ≡ 0)
 unfolding check
-check-told c msg e = by-valid (validOf c) refl e
+check-told c msg e = by-valid (lawfulOf c) refl e
   where
-    by-valid : (v : Bool) → validOf c ≡ v → cond v (scanOf c msg .number) 1 ≡ 0 → (validOf c ≡ true) × (scanOf c msg .number ≡ 0)
+    by-valid : (v : Bool) → lawfulOf c ≡ v → cond v (scanOf c msg .number) (clusterFault c) ≡ 0 → (lawfulOf c ≡ true) × (scanOf c msg .number ≡ 0)
     by-valid true v d = (v, d)
-    by-valid false v d = absurd (omega arith)
+    by-valid false v d = absurd (omega (arith, d, fault-some c v .0))
 
 -- what is then received is what the scan found
 pub received : (c : Config) (msg : List ℕ) → check c msg ≡ 0 → receiveOf c msg ≡ acceptedOf (scanOf c msg) msg

@@ -4,7 +4,7 @@ use mathlib.Core.Bool.{Bool, cond}
 use mathlib.Core.List.{List, [], _++_}
 use lib.ListN.{length, take, drop}
 use lib.Dec.{eqb, leb}
-use Rattle.config.specs.Cluster.{validOf}
+use Rattle.config.specs.Cluster.{lawfulOf, clusterFault}
 use Rattle.config.specs.declared.cluster.Config.{Config}
 use Rattle.config.specs.Refusals.{refusal}
 use Rattle.config.specs.declared.answer.Refusal.{Refusal}
@@ -27,9 +27,9 @@ use Rattle.message.specs.Scans.{Scan, scanOf}
 
 -- ---- reading
 
--- the first fault of a message: 1 for the cluster, then the message checks; 0 for none
+-- the first fault of a message: 1 or 15 for the cluster, then the message checks; 0 for none
 unfoldable pub check : Config → List ℕ → ℕ
-check c msg = cond (validOf c) (scanOf c msg .number) 1
+check c msg = cond (lawfulOf c) (scanOf c msg .number) (clusterFault c)
 
 -- 0 is no fault
 unfoldable pub verdictOf : ℕ → Verdict
@@ -69,7 +69,7 @@ abbrev pub untakenOf : Refusal → Taken
 untakenOf k = record { verdict = Verdict.Refused k; envelope = blankEnvelope; register = startRegister }
 
 unfoldable pub takenLedger : Config → List ℕ → Ledger
-takenLedger c msg = cond (validOf c) (scanOf c msg .ledger) freshLedger
+takenLedger c msg = cond (lawfulOf c) (scanOf c msg .ledger) freshLedger
 
 -- "another call gives the other fields or the number": all but the value
 unfoldable pub fieldsAnswer : Config → List ℕ → Fields

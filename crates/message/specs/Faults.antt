@@ -5,7 +5,7 @@ use mathlib.Core.Path.{_≡_}
 use mathlib.Core.Bool.{Bool, true, false, cond, not}
 use mathlib.Core.List.{List}
 use lib.Dec.{eqb, ltb}
-use Rattle.config.specs.Cluster.{validOf}
+use Rattle.config.specs.Cluster.{lawfulOf, clusterFault}
 use Rattle.config.specs.declared.cluster.Config.{Config}
 use Rattle.config.specs.Refusals.{refusal}
 use Rattle.config.specs.declared.answer.Number.{Number}
@@ -33,7 +33,7 @@ test ok k rest = cond ok rest k
 
 unfoldable pub faultOf : Config → Envelope → Replica → ℕ
 faultOf c e r =
-    test (validOf c) 1
+    test (lawfulOf c) (clusterFault c)
     (test (within 1 3 (e .kind)) 4
     (test (kindFits (e .kind) (e .desk) (e .round) (e .note)) 3
     (test (ltb (e .server) (c .n)) 4

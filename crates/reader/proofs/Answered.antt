@@ -7,7 +7,7 @@ use mathlib.Core.List.{List}
 use lib.ListN.{length}
 use borrow.Author.Tests.{eq-eqb, ne-eqb, le-ltb}
 use Rattle.quorums.specs.Accounts.{weight, margin}
-use Rattle.config.specs.Cluster.{validOf, serverOf}
+use Rattle.config.specs.Cluster.{lawfulOf, serverOf}
 use Rattle.config.specs.Refusals.{mostRefusal, refusal}
 use Rattle.config.specs.declared.answer.Refusal.{Refusal}
 use Rattle.config.specs.declared.answer.Verdict.{Verdict}
@@ -37,21 +37,21 @@ use Rattle.ledger.proofs.Weights.{received-sums, given-sums, sums-weight, sums-
 
 -- ---- the number of the check
 
-pub check-invalid : (c : Config) (msg : List ℕ) → validOf c ≡ false → check c msg ≡ 1
+pub check-invalid : (c : Config) (msg : List ℕ) → lawfulOf c ≡ false → check c msg ≡ 1
 unfolding check
 check-invalid c msg e = simp e
 
-check-found : (c : Config) (msg : List ℕ) (k : ℕ) → validOf c ≡ true → k ≡ scanOf c msg .number → check c msg ≡ k
+check-found : (c : Config) (msg : List ℕ) (k : ℕ) → lawfulOf c ≡ true → k ≡ scanOf c msg .number → check c msg ≡ k
 unfolding check
 check-found c msg k v e = simp v (sym e)
 
 -- and the verdict that goes by it
 
-pub verdict-invalid : (c : Config) (msg : List ℕ) → validOf c ≡ false → Verdict.Refused (refusal 1) ≡ checkAnswer c msg
+pub verdict-invalid : (c : Config) (msg : List ℕ) → lawfulOf c ≡ false → Verdict.Refused (refusal 1) ≡ checkAnswer c msg
 unfolding checkAnswer verdictOf
 verdict-invalid c msg e = simp (check-invalid c msg e)
 
-module _ (c : Config) (msg : List ℕ) (k : ℕ) (valid : validOf c ≡ true) (found : k ≡ scanOf c msg .number) where
+module _ (c : Config) (msg : List ℕ) (k : ℕ) (valid : lawfulOf c ≡ true) (found : k ≡ scanOf c msg .number) where
   pub verdict-passed : k ≡ 0 → Verdict.Accepted ≡ checkAnswer c msg
   unfolding checkAnswer verdictOf
   verdict-passed e = simp (check-found c msg k valid found, eq-eqb k 0 e)
@@ -67,7 +67,7 @@ found-refusal c msg k found ne = omega (arith, ne, found, scan-most c msg)
 -- ---- what is taken
 
 -- a cluster that isn't lawful
-module _ (c : Config) (msg : List ℕ) (invalid : validOf c ≡ false) where
+module _ (c : Config) (msg : List ℕ) (invalid : lawfulOf c ≡ false) where
   pub taken-invalid : untakenOf (refusal 1) ≡ takenOf c msg
   unfolding takenOf receiveOf
   taken-invalid = simp (check-invalid c msg invalid)
@@ -77,11 +77,11 @@ module _ (c : Config) (msg : List ℕ) (invalid : validOf c ≡ false) where
   ledger-invalid = simp invalid
 
 -- and one that is
-pub ledger-valid : (c : Config) (msg : List ℕ) → validOf c ≡ true → scanOf c msg .ledger ≡ takenLedger c msg
+pub ledger-valid : (c : Config) (msg : List ℕ) → lawfulOf c ≡ true → scanOf c msg .ledger ≡ takenLedger c msg
 unfolding takenLedger
 ledger-valid c msg valid = simp valid
 
-module _ (c : Config) (msg : List ℕ) (k : ℕ) (valid : validOf c ≡ true) (found : k ≡ scanOf c msg .number) where
+module _ (c : Config) (msg : List ℕ) (k : ℕ) (valid : lawfulOf c ≡ true) (found : k ≡ scanOf c msg .number) where
   pub taken-refused : (r : Refusal) → (k ≡ 0 → ⊥) → r ≡ refusal k → untakenOf r ≡ takenOf c msg
   unfolding takenOf receiveOf
   taken-refused r ne is = simp (check-found c msg k valid found, ne-eqb k 0 ne) (ap untakenOf is)

@@ -7,7 +7,7 @@ use mathlib.Core.List.{List}
 use lib.Dec.{eqb}
 use lib.ListN.{length, take}
 use lib.Seq.{take-all}
-use Rattle.config.specs.Cluster.{validOf}
+use Rattle.config.specs.Cluster.{lawfulOf}
 use Rattle.config.specs.declared.cluster.Config.{Config}
 use Rattle.ledger.specs.declared.ledger.Ledger.{Ledger}
 use Rattle.ledger.specs.Ledgers.{receivedOf, givenOf}
@@ -64,7 +64,7 @@ module _ {c : Config} {msg : List ℕ} {h : HeadRead} {r : RegisterRead} {stands
     note-is = rw (note, sheet, p .sheet-stands, p .register, p .head)
 
 -- the number, once the fields are read
-pub number-is : (c : Config) (msg : List ℕ) {received given : List ℕ} {n e : Cursor} → n ≡ fieldsOf c msg → validOf c ≡ true
+pub number-is : (c : Config) (msg : List ℕ) {received given : List ℕ} {n e : Cursor} → n ≡ fieldsOf c msg → lawfulOf c ≡ true
     → received ≡ table 16 (receivedOf (scanOf c msg .ledger)) → given ≡ table 16 (givenOf (scanOf c msg .ledger))
     → e ≡ require (allAbove c received given) 5 (require (eqb (n .at) (length msg)) 2 n)
     → e .number ≡ scanOf c msg .number

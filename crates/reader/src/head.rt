@@ -11,7 +11,7 @@ ghost use mathlib.Core.Path.{_≡_};
 ghost use mathlib.Core.Bool.{true};
 ghost use Prim.Native.Nat.{_≤_};
 ghost use lib.ListN.{length};
-ghost use Rattle.config.specs.Cluster.{validOf};
+ghost use Rattle.config.specs.Cluster.{lawfulOf};
 ghost use Rattle.message.specs.Cursors.{start};
 ghost use Rattle.message.specs.Scans.{mapLawful, kindHas, readMap, readKind, headOf};
 
@@ -68,7 +68,7 @@ pub(crate) fn read_kind(msg: &[u8], map: Cursor) -> Cursor
 }
 
 pub(crate) fn read_head(config: Config, msg: &[u8]) -> HeadRead
-    requires { ⌜ validOf config ≡ true ⌝ }
+    requires { ⌜ lawfulOf config ≡ true ⌝ }
     ensures { λ r. ⌜ (r ≡ headOf config (now (msg .entry))) × (r .cursor .at ≤ length (now (msg .entry))) × (r .kind ≤ 255) × (r .server ≤ 255) × (r .desk ≤ 65535) × (r .round ≤ 4294967295) ⌝ }
 {
     let map = read_map(msg);

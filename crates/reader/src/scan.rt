@@ -17,7 +17,7 @@ ghost use mathlib.Core.Bool.{true};
 ghost use Prim.Native.Nat.{_≤_};
 ghost use lib.Dec.{eqb};
 ghost use lib.ListN.{length, replicate};
-ghost use Rattle.config.specs.Cluster.{validOf};
+ghost use Rattle.config.specs.Cluster.{lawfulOf};
 ghost use Rattle.config.specs.Refusals.{mostRefusal, refusal as refusalOf};
 ghost use Rattle.ledger.specs.Ledgers.{receivedOf, givenOf};
 ghost use Rattle.quorums.specs.Tables.{table};
@@ -35,7 +35,7 @@ pub(crate) fn finish(
     given: &[u64],
     note: Cursor,
 ) -> Cursor
-    requires { ⌜ (validOf config ≡ true) × Sums 68719476720 (now received) × Sums 68719476720 (now given) ⌝ }
+    requires { ⌜ (lawfulOf config ≡ true) × Sums 68719476720 (now received) × Sums 68719476720 (now given) ⌝ }
     ensures { λ r. ⌜ r ≡ requireOf (allAbove config (now (received .entry)) (now (given .entry))) 5 (requireOf (eqb (note .at) (length (now (msg .entry)))) 2 note) ⌝ }
 {
     let all = require(note.at == msg.len(), 2, note);
@@ -47,7 +47,7 @@ pub(crate) fn finish(
 
 // The fields, up to the note, with what each server received and gave into two lists of zeros.
 pub(crate) fn scan(config: Config, msg: &[u8], received: &mut [u64], given: &mut [u64]) -> Cursor
-    requires { ⌜ (validOf config ≡ true) × (now received ≡ replicate 16 0) × (now given ≡ replicate 16 0) ⌝ }
+    requires { ⌜ (lawfulOf config ≡ true) × (now received ≡ replicate 16 0) × (now given ≡ replicate 16 0) ⌝ }
     ensures { λ r. ⌜ (r ≡ fieldsOf config (now (msg .entry))) × (now (received .exit) ≡ table 16 (receivedOf (scanOf config (now (msg .entry)) .ledger))) × (now (given .exit) ≡ table 16 (givenOf (scanOf config (now (msg .entry)) .ledger))) ⌝ }
 {
     // Lent on as a part, the message's place and length are stored one by one, as they were: lent on as it is, the pair would be read at once, for which

@@ -5,13 +5,13 @@ use config::Number;
 ghost use mathlib.Core.Path.{_≡_};
 ghost use mathlib.Core.Bool.{true};
 ghost use Rattle.quorums.specs.Accounts.{weight as weightOf, margin};
-ghost use Rattle.config.specs.Cluster.{validOf, serverOf};
+ghost use Rattle.config.specs.Cluster.{lawfulOf, serverOf};
 ghost use Rattle.ledger.specs.Maps.{named};
 ghost use Rattle.ledger.specs.Sums.{accountsIn, allAbove, Sums};
 
 // Whether every weight is above the floor.
 pub(crate) fn above_floor(config: Config, received: &[u64], given: &[u64]) -> bool
-    requires { ⌜ (validOf config ≡ true) × Sums 68719476720 (now received) × Sums 68719476720 (now given) ⌝ }
+    requires { ⌜ (lawfulOf config ≡ true) × Sums 68719476720 (now received) × Sums 68719476720 (now given) ⌝ }
     ensures { λ r. ⌜ r ≡ allAbove config (now (received .entry)) (now (given .entry)) ⌝ }
 {
     let n = config.n as usize;
@@ -40,7 +40,7 @@ pub(crate) fn weight_of(config: Config, received: &[u64], given: &[u64], server:
 
 // Twice the weight of the servers that a map names, less W: twice what they hold, less twice what they gave and W.
 pub(crate) fn margin_of(config: Config, received: &[u64], given: &[u64], map: u64) -> i64
-    requires { ⌜ (validOf config ≡ true) × Sums 68719476720 (now received) × Sums 68719476720 (now given) ⌝ }
+    requires { ⌜ (lawfulOf config ≡ true) × Sums 68719476720 (now received) × Sums 68719476720 (now given) ⌝ }
     ensures { λ r. ⌜ r ≡ margin (config .n) (accountsIn config (now (received .entry)) (now (given .entry))) (named map) ⌝ }
 {
     let n = config.n as usize;

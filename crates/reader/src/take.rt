@@ -16,7 +16,7 @@ ghost use mathlib.Core.Bool.{true};
 ghost use Prim.Native.Nat.{_+_, _≤_, _<_};
 ghost use lib.ListN.{length, getD, replicate};
 ghost use Rattle.quorums.specs.Sum.{sum};
-ghost use Rattle.config.specs.Cluster.{validOf};
+ghost use Rattle.config.specs.Cluster.{lawfulOf};
 ghost use Rattle.ledger.specs.Ledgers.{receivedOf, givenOf};
 ghost use Rattle.quorums.specs.Tables.{table};
 ghost use Rattle.ledger.specs.Sums.{Sums};
@@ -74,7 +74,7 @@ pub(crate) fn take_row(
     row: &mut [u32],
     received: &mut [u64],
 ) -> RowTaken
-    requires { ⌜ (validOf config ≡ true) × (i < 16) × (cursor .at ≤ length (now msg)) × (now row ≡ replicate 16 0) × Sums 18446744069414584320 (now received) ⌝ }
+    requires { ⌜ (lawfulOf config ≡ true) × (i < 16) × (cursor .at ≤ length (now msg)) × (now row ≡ replicate 16 0) × Sums 18446744069414584320 (now received) ⌝ }
     ensures { λ r. ⌜ (r .cursor ≡ rowOf config (now (msg .entry)) i stands cursor .cursor) × (r .count ≡ rowOf config (now (msg .entry)) i stands cursor .count) × (r .count ≤ 65535) × (r .total ≡ sum 16 (rowCells config (now (msg .entry)) i stands cursor)) × (now (row .exit) ≡ table 16 (rowCells config (now (msg .entry)) i stands cursor)) × (now (received .exit) ≡ table 16 (λ j. getD (now (received .entry)) j 0 + rowCells config (now (msg .entry)) i stands cursor j)) × (r .cursor .at ≤ length (now (msg .entry))) ⌝ }
 {
     if stands == 0 {
@@ -106,7 +106,7 @@ pub(crate) fn take_rows(
     received: &mut [u64],
     given: &mut [u64],
 ) -> Cursor
-    requires { ⌜ (validOf config ≡ true) × (map .at ≤ length (now msg)) × (map .x ≤ 65535) × (now counts ≡ replicate 16 0) × (now cells ≡ replicate 256 0) × (now received ≡ replicate 16 0) × (now given ≡ replicate 16 0) ⌝ }
+    requires { ⌜ (lawfulOf config ≡ true) × (map .at ≤ length (now msg)) × (map .x ≤ 65535) × (now counts ≡ replicate 16 0) × (now cells ≡ replicate 256 0) × (now received ≡ replicate 16 0) × (now given ≡ replicate 16 0) ⌝ }
     ensures { λ r. ⌜ (r ≡ rowsAfter config (now (msg .entry)) (map .x) map 16) × (now (counts .exit) ≡ ledgerRead config (now (msg .entry)) (map .x) map .counts) × (now (cells .exit) ≡ ledgerRead config (now (msg .entry)) (map .x) map .cells) × (now (received .exit) ≡ table 16 (receivedOf (ledgerRead config (now (msg .entry)) (map .x) map))) × (now (given .exit) ≡ table 16 (givenOf (ledgerRead config (now (msg .entry)) (map .x) map))) × (r .at ≤ length (now (msg .entry))) ⌝ }
 {
     let mut cursor = map;
@@ -139,7 +139,7 @@ pub(crate) fn take_sheet(
     received: &mut [u64],
     given: &mut [u64],
 ) -> Cursor
-    requires { ⌜ (validOf config ≡ true) × (cursor .at ≤ length (now msg)) × (now counts ≡ replicate 16 0) × (now cells ≡ replicate 256 0) × (now received ≡ replicate 16 0) × (now given ≡ replicate 16 0) ⌝ }
+    requires { ⌜ (lawfulOf config ≡ true) × (cursor .at ≤ length (now msg)) × (now counts ≡ replicate 16 0) × (now cells ≡ replicate 256 0) × (now received ≡ replicate 16 0) × (now given ≡ replicate 16 0) ⌝ }
     ensures { λ r. ⌜ (r ≡ sheetOf config (now (msg .entry)) stands cursor .cursor) × (now (counts .exit) ≡ sheetOf config (now (msg .entry)) stands cursor .ledger .counts) × (now (cells .exit) ≡ sheetOf config (now (msg .entry)) stands cursor .ledger .cells) × (now (received .exit) ≡ table 16 (receivedOf (sheetOf config (now (msg .entry)) stands cursor .ledger))) × (now (given .exit) ≡ table 16 (givenOf (sheetOf config (now (msg .entry)) stands cursor .ledger))) × (r .at ≤ length (now (msg .entry))) ⌝ }
 {
     let map = read_number(msg, stands, 2, 1, most_map(config), cursor);

@@ -14,7 +14,7 @@ ghost use mathlib.Core.Bool.{true};
 ghost use Prim.Native.Nat.{_+_, _-_, _^_, _≤_, _<_};
 ghost use lib.ListN.{length, getD, replicate};
 ghost use Rattle.quorums.specs.Sum.{sum};
-ghost use Rattle.config.specs.Cluster.{validOf};
+ghost use Rattle.config.specs.Cluster.{lawfulOf};
 ghost use Rattle.ledger.specs.Ledgers.{receivedOf, givenOf};
 ghost use Rattle.quorums.specs.Tables.{table};
 ghost use Rattle.message.specs.Scans.{cellsAfter, cellRead, cellMapOf, rowCells, rowOf, rowsAfter, ledgerRead, sheetOf};
@@ -28,7 +28,7 @@ pub(crate) struct CellsRead {
 
 // The largest map with bits below n only.
 pub(crate) fn most_map(config: Config) -> u64
-    requires { ⌜ validOf config ≡ true ⌝ }
+    requires { ⌜ lawfulOf config ≡ true ⌝ }
     ensures { λ r. ⌜ (r ≡ 2 ^ config .n - 1) × (r ≤ 65535) ⌝ }
 {
     let n = config.n as u32;
@@ -71,7 +71,7 @@ pub(crate) fn read_cell_map(
     stands: u64,
     count: Cursor,
 ) -> Cursor
-    requires { ⌜ (validOf config ≡ true) × (i < 16) × (count .at ≤ length (now msg)) ⌝ }
+    requires { ⌜ (lawfulOf config ≡ true) × (i < 16) × (count .at ≤ length (now msg)) ⌝ }
     ensures { λ r. ⌜ (r ≡ cellMapOf config (now (msg .entry)) i stands count) × (r .at ≤ length (now (msg .entry))) × (r .x ≤ 65535) ⌝ }
 {
     let map = read_number(msg, stands, 2, 1, most_map(config), count);
@@ -87,7 +87,7 @@ pub(crate) fn weigh_row(
     cursor: Cursor,
     received: &mut [u64],
 ) -> CellsRead
-    requires { ⌜ (validOf config ≡ true) × (i < 16) × (cursor .at ≤ length (now msg)) × Sums 18446744069414584320 (now received) ⌝ }
+    requires { ⌜ (lawfulOf config ≡ true) × (i < 16) × (cursor .at ≤ length (now msg)) × Sums 18446744069414584320 (now received) ⌝ }
     ensures { λ r. ⌜ (r .cursor ≡ rowOf config (now (msg .entry)) i stands cursor .cursor) × (r .total ≡ sum 16 (rowCells config (now (msg .entry)) i stands cursor)) × (now (received .exit) ≡ table 16 (λ j. getD (now (received .entry)) j 0 + rowCells config (now (msg .entry)) i stands cursor j)) × (r .cursor .at ≤ length (now (msg .entry))) ⌝ }
 {
     if stands == 0 {
@@ -115,7 +115,7 @@ pub(crate) fn weigh_rows(
     received: &mut [u64],
     given: &mut [u64],
 ) -> Cursor
-    requires { ⌜ (validOf config ≡ true) × (map .at ≤ length (now msg)) × (map .x ≤ 65535) × (now received ≡ replicate 16 0) × (now given ≡ replicate 16 0) ⌝ }
+    requires { ⌜ (lawfulOf config ≡ true) × (map .at ≤ length (now msg)) × (map .x ≤ 65535) × (now received ≡ replicate 16 0) × (now given ≡ replicate 16 0) ⌝ }
     ensures { λ r. ⌜ (r ≡ rowsAfter config (now (msg .entry)) (map .x) map 16) × (now (received .exit) ≡ table 16 (receivedOf (ledgerRead config (now (msg .entry)) (map .x) map))) × (now (given .exit) ≡ table 16 (givenOf (ledgerRead config (now (msg .entry)) (map .x) map))) × (r .at ≤ length (now (msg .entry))) ⌝ }
 {
     let mut cursor = map;
@@ -143,7 +143,7 @@ pub(crate) fn weigh_sheet(
     received: &mut [u64],
     given: &mut [u64],
 ) -> Cursor
-    requires { ⌜ (validOf config ≡ true) × (cursor .at ≤ length (now msg)) × (now received ≡ replicate 16 0) × (now given ≡ replicate 16 0) ⌝ }
+    requires { ⌜ (lawfulOf config ≡ true) × (cursor .at ≤ length (now msg)) × (now received ≡ replicate 16 0) × (now given ≡ replicate 16 0) ⌝ }
     ensures { λ r. ⌜ (r ≡ sheetOf config (now (msg .entry)) stands cursor .cursor) × (now (received .exit) ≡ table 16 (receivedOf (sheetOf config (now (msg .entry)) stands cursor .ledger))) × (now (given .exit) ≡ table 16 (givenOf (sheetOf config (now (msg .entry)) stands cursor .ledger))) × (r .at ≤ length (now (msg .entry))) ⌝ }
 {
     let map = read_number(msg, stands, 2, 1, most_map(config), cursor);

@@ -18,14 +18,14 @@ use replica::Register;
 ghost use mathlib.Core.Path.{_≡_};
 ghost use mathlib.Core.Bool.{true};
 ghost use lib.ListN.{replicate};
-ghost use Rattle.config.specs.Cluster.{validOf};
+ghost use Rattle.config.specs.Cluster.{lawfulOf};
 ghost use Rattle.format.specs.Bytes.{bit as bitOf};
 ghost use Rattle.message.specs.Scans.{headOf, registerOf, scanOf};
 ghost use Rattle.message.specs.Answers.{takenOf, untakenOf};
 
 // The register of a message, and where its value lies.
 pub(crate) fn register_in(config: Config, msg: &[u8]) -> RegisterRead
-    requires { ⌜ validOf config ≡ true ⌝ }
+    requires { ⌜ lawfulOf config ≡ true ⌝ }
     ensures { λ r. ⌜ r ≡ registerOf config (now (msg .entry)) (bitOf (headOf config (now (msg .entry)) .map) 4) (headOf config (now (msg .entry)) .cursor) ⌝ }
 {
     let head = read_head(config, msg);
@@ -35,7 +35,7 @@ pub(crate) fn register_in(config: Config, msg: &[u8]) -> RegisterRead
 
 // What a message says, in one pass over its bytes, its ledger into arrays of zeros.
 pub(crate) fn taken_in(config: Config, msg: &[u8], counts: &mut [u16], cells: &mut [u32]) -> Taken
-    requires { ⌜ (validOf config ≡ true) × (now counts ≡ replicate 16 0) × (now cells ≡ replicate 256 0) ⌝ }
+    requires { ⌜ (lawfulOf config ≡ true) × (now counts ≡ replicate 16 0) × (now cells ≡ replicate 256 0) ⌝ }
     ensures { λ r. ⌜ (r ≡ takenOf config (now (msg .entry))) × (now (counts .exit) ≡ scanOf config (now (msg .entry)) .ledger .counts) × (now (cells .exit) ≡ scanOf config (now (msg .entry)) .ledger .cells) ⌝ }
 {
     let mut received: [u64; 16] = [0; 16];

@@ -72,7 +72,7 @@ module _ (c : Config) (a b : Replica) (p : fits c a ≡ true) (q : fits c b ≡ 
         simp (
           agreeing (c .n) a b e .0,
           rows-join,
-          s .valid,
+          s .lawful,
           joined-bounded c (a .ledger) (b .ledger) (s .ledger-bounded) (t .ledger-bounded),
           higher-either (λ r. registerFits c r ≡ true) (a .register) (b .register) (s .register-fits) (t .register-fits),
         )

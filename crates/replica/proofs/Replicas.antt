@@ -6,7 +6,7 @@ use mathlib.Core.Bool.{true, false}
 use lib.ListN.{getD}
 use Rattle.quorums.proofs.Tests.{both}
 use Rattle.quorums.proofs.Sums.{all-each}
-use Rattle.config.specs.Cluster.{validOf}
+use Rattle.config.specs.Cluster.{lawfulOf}
 use Rattle.config.specs.declared.cluster.Config.{Config}
 use Rattle.ledger.specs.declared.ledger.Ledger.{Ledger}
 use Rattle.ledger.specs.Ledgers.{countOf}
@@ -24,7 +24,7 @@ use Rattle.replica.proofs.Registers.{start-typed, start-fits, higher-ei
 -- ---- a replica that a party may hold
 
 pub record Fits (c : Config) (r : Replica) : Type 0 where
-  pub valid : validOf c ≡ true
+  pub lawful : lawfulOf c ≡ true
   pub ledger-bounded : bounded c (r .ledger) ≡ true
   pub ledger-above : aboveFloor c (r .ledger) ≡ true
   pub register-fits : registerFits c (r .register) ≡ true
@@ -32,22 +32,22 @@ pub record Fits (c : Config) (r : Replica) : Type 0 where
 pub fits-told : (c : Config) (r : Replica) → fits c r ≡ true → Fits c r
 unfolding fits
 fits-told c r e =
-    let v = both (validOf c) _ e in
+    let v = both (lawfulOf c) _ e in
     let b = both (bounded c (r .ledger)) _ (v .1) in
     let f = both (aboveFloor c (r .ledger)) _ (b .1) in
-    record { valid = v .0; ledger-bounded = b .0; ledger-above = f .0; register-fits = f .1 }
+    record { lawful = v .0; ledger-bounded = b .0; ledger-above = f .0; register-fits = f .1 }
 
 pub told-fits : (c : Config) (r : Replica) → Fits c r → fits c r ≡ true
 unfolding fits
-told-fits c r t = simp (t .valid, t .ledger-bounded, t .ledger-above, t .register-fits)
+told-fits c r t = simp (t .lawful, t .ledger-bounded, t .ledger-above, t .register-fits)
 
 pub fresh-typed : Typed freshReplica
 fresh-typed = record { ledger-typed = fresh.fresh-typed; register-typed = start-typed }
 
-pub fresh-fits : (c : Config) → validOf c ≡ true → fits c freshReplica ≡ true
+pub fresh-fits : (c : Config) → lawfulOf c ≡ true → fits c freshReplica ≡ true
 fresh-fits c v =
     told-fits c freshReplica
-    (record { valid = v; ledger-bounded = fresh.fresh-bounded c; ledger-above = fresh.fresh-above c v; register-fits = start-fits c })
+    (record { lawful = v; ledger-bounded = fresh.fresh-bounded c; ledger-above = fresh.fresh-above c v; register-fits = start-fits c })
 
 -- ---- two replicas that join
 
@@ -83,7 +83,7 @@ join-fits c a b p q e =
     let t = fits-told c b q in
     let j = joinable-told c a b e in
     told-fits c (join a b) (record {
-      valid = s .valid;
+      lawful = s .lawful;
       ledger-bounded = joined-bounded c (a .ledger) (b .ledger) (s .ledger-bounded) (t .ledger-bounded);
       ledger-above = j .above;
       register-fits = higher-either (λ r. registerFits c r ≡ true) (a .register) (b .register) (s .register-fits) (t .register-fits);

@@ -1,7 +1,7 @@
 -- A ledger and a register (paper 01: pair), and their join: sheets join, and the higher tag is taken.
 use Prim.Native.Nat.{ℕ}
 use mathlib.Core.Bool.{Bool, false, cond}
-use Rattle.config.specs.Cluster.{validOf}
+use Rattle.config.specs.Cluster.{lawfulOf}
 use Rattle.config.specs.declared.cluster.Config.{Config}
 use Rattle.ledger.specs.declared.join.Compared.{Compared}
 use Rattle.ledger.specs.Ledgers.{freshLedger, Typed as TypedLedger}
@@ -14,9 +14,10 @@ use Rattle.replica.specs.Registers.{startRegister, registerFits, higher,
 abbrev pub freshReplica : Replica
 freshReplica = record { ledger = freshLedger; register = startRegister }
 
--- The part of the record test (paper 01, "Numbers handed out", 1) that is about what a party holds: the field ranges, and no light sheet.
+-- The part of the record test (paper 01, "Numbers handed out", 1; paper 02, N2) that is about the cluster and what a party holds: lawful start weights, the
+-- field ranges, and no light sheet.
 unfoldable pub fits : Config → Replica → Bool
-fits c r = cond (validOf c) (cond (bounded c (r .ledger)) (cond (aboveFloor c (r .ledger)) (registerFits c (r .register)) false) false) false
+fits c r = cond (lawfulOf c) (cond (bounded c (r .ledger)) (cond (aboveFloor c (r .ledger)) (registerFits c (r .register)) false) false) false
 
 -- whether two replicas join: equal tags have equal values, the sheets join, and the joined sheet is not light
 unfoldable pub joinable : Config → Replica → Replica → Bool

@@ -9,7 +9,7 @@ use mir.Syntax.{w16, w32}
 use mir.Val.{Fits}
 use Rattle.quorums.proofs.Sums.{sum-zero}
 use Rattle.config.specs.declared.cluster.Config.{Config}
-use Rattle.config.proofs.Clusters.{valid-bounds}
+use Rattle.config.proofs.Clusters.{lawful-bounds}
 use Rattle.ledger.specs.Ledgers.{givenOf}
 use Rattle.ledger.proofs.Totals.{cell-outside, count-empty}
 use Rattle.replica.specs.declared.register.Register.{Register}
@@ -55,7 +55,7 @@ is-taken c e counts cells g te tr none =
     record {
       not-long = written-short c e r te tr clean;
       short = fits-short (g .value) (fits-value c g (told .register-fits));
-      servers = valid-bounds c (told .valid) .most;
+      servers = lawful-bounds c (told .valid) .most;
       counted = λ i h. given i (told .ledger-bounded) h .0;
       below = λ i l h. given i (told .ledger-bounded) h .1 (sum-zero 16 _ (λ j k. cell-outside c (r .ledger) i j (told .ledger-bounded) h k (inl l)));
     }

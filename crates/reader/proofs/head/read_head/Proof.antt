@@ -1,7 +1,7 @@
 -- `read_head` meets its contract: each field in turn, from the cursor of the one before it.
 use native.Mathlib.Omega.{arith}
 use borrow.Author.Needs.{needs}
-use Rattle.config.proofs.Clusters.{valid-bounds}
+use Rattle.config.proofs.Clusters.{lawful-bounds}
 use Rattle.message.specs.Scans.{headOf}
 use Rattle.reader.proofs.head.read_head.Statement.{statement}
 use Rattle.reader.proofs.head.read_head.Tie as tie
@@ -13,7 +13,7 @@ read-kind-requires : tie.Need-read-kind-requires
 read-kind-requires c κs = search needs
 
 sub-read-number : tie.Need-sub-read-number
-sub-read-number c = omega (arith, valid-bounds _ (c .before .before .before .before .pre))
+sub-read-number c = omega (arith, lawful-bounds _ (c .before .before .before .before .pre))
 
 read-number-requires : tie.Need-read-number-requires
 read-number-requires c κs = search needs
@@ -40,7 +40,7 @@ returns c =
     let desk = c .before .before .read-number2 .ensures in
     let round-stands = c .before .bit2 .ensures .0 in
     let round = c .read-number3 .ensures in
-    let bounds = valid-bounds _ (c .before .before .before .before .before .before .before .before .before .pre) in (
+    let bounds = lawful-bounds _ (c .before .before .before .before .before .before .before .before .before .pre) in (
       rw (← map .0, ← kind .0, ← server .0, ← desk-stands, ← desk .0, ← round-stands, ← round .0),
       round .1,
       omega (arith, kind .2),

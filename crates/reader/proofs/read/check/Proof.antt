@@ -3,7 +3,7 @@ use mathlib.Core.Path.{_≡_, refl, sym, _∙_}
 use mathlib.Core.Bool.{true}
 use borrow.Author.Needs.{needs}
 use borrow.Author.Tests.{not-true, not-false}
-use Rattle.config.specs.Cluster.{validOf}
+use Rattle.config.specs.Cluster.{lawfulOf}
 use Rattle.message.specs.Scans.{scanOf}
 use Rattle.reader.proofs.Answered.{verdict-invalid, verdict-passed, verdict-found, found-refusal, received-small, given-small}
 use Rattle.reader.proofs.Scanned.{number-is}
@@ -21,7 +21,7 @@ scanned c = c .before .before .before .before .before
 abbrev start : tie.Else1 → tie.Start
 start c = c .before .before .before
 
-valid : (c : tie.Else1) → validOf (start c .args .config) ≡ true
+valid : (c : tie.Else1) → lawfulOf (start c .args .config) ≡ true
 valid c = sym (c .before .valid .ensures) ∙ not-false _ (c .if1 .left)
 
 found : (c : tie.After-finish) →

@@ -6,10 +6,10 @@ use mathlib.Core.Bool.{true}
 use borrow.Author.Needs.{needs}
 use borrow.Author.Tests.{eq-eqb, ne-eqb}
 use lib.Dec.{eqb}
-use Rattle.config.specs.Cluster.{validOf}
+use Rattle.config.specs.Cluster.{lawfulOf}
 use Rattle.config.specs.declared.cluster.Config.{Config}
 use Rattle.config.specs.declared.answer.Signed.{Signed}
-use Rattle.config.proofs.Clusters.{valid-bounds}
+use Rattle.config.proofs.Clusters.{lawful-bounds}
 use Rattle.ledger.specs.Maps.{mapOf}
 use Rattle.ledger.proofs.Answers.{read-back}
 use Rattle.ledger.proofs.Maps.{shifted-zero}
@@ -22,7 +22,7 @@ use Rattle.reader.proofs.read.quorum.Statement.{statement}
 use Rattle.reader.proofs.read.quorum.Tie as tie
 
 -- the map is tested by what is left of it after n bits
-map-is : (c : Config) (m : ℕ) → validOf c ≡ true → mapOf c m ≡ eqb (m / 2 ^ c .n) 0
+map-is : (c : Config) (m : ℕ) → lawfulOf c ≡ true → mapOf c m ≡ eqb (m / 2 ^ c .n) 0
 unfolding mapOf
 map-is c m v = simp v (sym (shifted-zero m (c .n)))
 
@@ -48,7 +48,7 @@ passed : (c : tie.After-enum-told) → let a = start (weighed c) .args in check 
 unfolding checkAnswer
 passed c = accepted-check _ (sym (weighed c .weigh-message .ensures .0) ∙ c .enum-told .given .1)
 
-valid : (c : tie.After-enum-told) → validOf (start (weighed c) .args .config) ≡ true
+valid : (c : tie.After-enum-told) → lawfulOf (start (weighed c) .args .config) ≡ true
 valid c = check-told _ _ (passed c) .0
 
 slice-aggregate-weigh-message : tie.Need-slice-aggregate-weigh-message
@@ -71,13 +71,13 @@ enum-told : tie.Need-enum-told
 enum-told c = search needs
 
 cast-n : tie.Need-cast-n
-cast-n c = omega (arith, valid-bounds _ (valid (c .before)) .most)
+cast-n c = omega (arith, lawful-bounds _ (valid (c .before)) .most)
 
 cast-if1 : tie.Need-cast-if1
 cast-if1 c = search needs
 
 shr-if1 : tie.Need-shr-if1
-shr-if1 c = omega (arith, valid-bounds _ (valid (c .before)) .most)
+shr-if1 c = omega (arith, lawful-bounds _ (valid (c .before)) .most)
 
 returns-2 : tie.Need-returns-2
 returns-2 c =

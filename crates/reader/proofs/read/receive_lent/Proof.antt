@@ -3,7 +3,7 @@ use mathlib.Core.Path.{_≡_, refl, sym, ap, _∙_}
 use mathlib.Core.Bool.{true, false}
 use borrow.Author.Needs.{needs}
 use borrow.Author.Tests.{not-true, not-false}
-use Rattle.config.specs.Cluster.{validOf}
+use Rattle.config.specs.Cluster.{lawfulOf}
 use Rattle.ledger.specs.declared.ledger.Ledger.{Ledger}
 use Rattle.reader.proofs.Answered.{taken-invalid, ledger-invalid, ledger-valid}
 use Rattle.reader.proofs.read.receive_lent.Statement.{statement}
@@ -14,10 +14,10 @@ use Rattle.reader.proofs.read.receive_lent.Tie as tie
 abbrev start : tie.After-valid → tie.Start
 start c = c .before .before .before .before
 
-invalid : (c : tie.Then1) → validOf (start (c .before) .args .config) ≡ false
+invalid : (c : tie.Then1) → lawfulOf (start (c .before) .args .config) ≡ false
 invalid c = sym (c .before .valid .ensures) ∙ not-true _ (c .if1 .taken)
 
-valid : (c : tie.Else1) → validOf (start (c .before) .args .config) ≡ true
+valid : (c : tie.Else1) → lawfulOf (start (c .before) .args .config) ≡ true
 valid c = sym (c .before .valid .ensures) ∙ not-false _ (c .if1 .left)
 
 valid-requires : tie.Need-valid-requires

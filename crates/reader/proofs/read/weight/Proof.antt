@@ -2,7 +2,7 @@
 use mathlib.Core.Path.{_≡_, sym, ap, _∙_}
 use mathlib.Core.Bool.{true}
 use borrow.Author.Needs.{needs}
-use Rattle.config.specs.Cluster.{validOf, serverOf}
+use Rattle.config.specs.Cluster.{lawfulOf, serverOf}
 use Rattle.config.specs.declared.answer.Signed.{Signed}
 use Rattle.config.proofs.Clusters.{valid-server}
 use Rattle.ledger.proofs.Answers.{read-back}
@@ -33,7 +33,7 @@ passed : (c : tie.After-enum-told) → let a = start (weighed c) .args in check 
 unfolding checkAnswer
 passed c = accepted-check _ (sym (weighed c .weigh-message .ensures .0) ∙ c .enum-told .given .1)
 
-valid : (c : tie.After-enum-told) → validOf (start (weighed c) .args .config) ≡ true
+valid : (c : tie.After-enum-told) → lawfulOf (start (weighed c) .args .config) ≡ true
 valid c = check-told _ _ (passed c) .0
 
 server : (c : tie.Else1) → let a = start (weighed (matched c)) .args in serverOf (a .config) (a .server) ≡ true

@@ -4,7 +4,7 @@ use mathlib.Core.Path.{_≡_, sym, _∙_}
 use mathlib.Core.Bool.{true, false}
 use borrow.Author.Needs.{needs}
 use borrow.Author.Tests.{not-true, not-false}
-use Rattle.config.specs.Cluster.{validOf}
+use Rattle.config.specs.Cluster.{lawfulOf}
 use Rattle.message.specs.Scans.{scanOf}
 use Rattle.reader.proofs.Answered.{check-invalid, verdict-invalid, verdict-passed, verdict-found, found-refusal, sums-found, received-small, given-small}
 use Rattle.reader.proofs.Scanned.{number-is, scanned-part}
@@ -22,7 +22,7 @@ tested c = c .before .before .before .before
 abbrev scanned : tie.After-finish → tie.After-scan
 scanned c = c .before .before .before .before .before .before .before
 
-valid : (c : tie.Else1) → validOf (start (c .before) .args .config) ≡ true
+valid : (c : tie.Else1) → lawfulOf (start (c .before) .args .config) ≡ true
 valid c = sym (c .before .valid .ensures) ∙ not-false _ (c .if1 .left)
 
 found : (c : tie.After-finish) →
@@ -39,7 +39,7 @@ valid-requires c κs = search needs
 returns : tie.Need-returns
 returns c =
     let a = start (c .before) .args in
-    let out : validOf (a .config) ≡ false = sym (c .before .valid .ensures) ∙ not-true _ (c .if1 .taken) in
+    let out : lawfulOf (a .config) ≡ false = sym (c .before .valid .ensures) ∙ not-true _ (c .if1 .taken) in
     (verdict-invalid _ _ out, λ e. absurd (omega (arith, check-invalid (a .config) (a .msg .now) out)))
 
 sub-scan : tie.Need-sub-scan

@@ -11,7 +11,7 @@ use Rattle.quorums.specs.Sum.{all}
 use Rattle.quorums.proofs.Sums.{all-none, all-next, all-fails}
 use Rattle.config.specs.Answers.{leastAnswer}
 use Rattle.config.specs.declared.answer.Number.{Number}
-use Rattle.config.proofs.Clusters.{valid-bounds, start-small, least-told}
+use Rattle.config.proofs.Clusters.{lawful-bounds, start-small, least-told}
 use Rattle.ledger.proofs.Weights.{least-stands, least-bound, aboveAt, above-at}
 use Rattle.reader.proofs.sums.above_floor.Statement.{statement}
 use Rattle.reader.proofs.sums.above_floor.Tie as tie
@@ -54,7 +54,7 @@ abbrev entry : tie.In-loop Inv-loop μ-loop → tie.Start Inv-loop μ-loop
 entry c = start (told c)
 
 small : (c : tie.In-loop Inv-loop μ-loop) → c .before .loop .i < 16
-small c = omega (arith, c .loop-test .taken, valid-bounds _ (entry c .pre .0) .most)
+small c = omega (arith, c .loop-test .taken, lawful-bounds _ (entry c .pre .0) .most)
 
 least-is : (c : tie.After-known-told Inv-loop μ-loop) → leastAnswer (start c .args .config) ≡ Number.Value (c .before .least2 .given .0 .0)
 least-is c = sym (c .before .before .before .least .ensures) ∙ c .before .least2 .given .1

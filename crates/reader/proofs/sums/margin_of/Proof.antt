@@ -10,7 +10,7 @@ use lib.ListN.{getD}
 use mir.Facts.{toZ-ofZ}
 use Rattle.config.specs.Answers.{totalAnswer}
 use Rattle.config.specs.declared.answer.Number.{Number}
-use Rattle.config.proofs.Clusters.{valid-bounds}
+use Rattle.config.proofs.Clusters.{lawful-bounds}
 use Rattle.format.specs.Bytes.{bit}
 use Rattle.ledger.specs.Maps.{named}
 use Rattle.ledger.proofs.Answers.{gap-is, gap-fits}
@@ -51,7 +51,7 @@ abbrev turn : tie.After-start-at Inv-loop μ-loop → tie.At-loop Inv-loop μ-lo
 turn c = c .before .before
 
 small : (c : tie.In-loop Inv-loop μ-loop) → c .before .loop .i < 16
-small c = omega (arith, c .loop-test .taken, valid-bounds _ (entry (c .before) .pre .0) .most)
+small c = omega (arith, c .loop-test .taken, lawful-bounds _ (entry (c .before) .pre .0) .most)
 
 -- what a turn may add fits
 room : (c : tie.After-start-at Inv-loop μ-loop) →
@@ -108,7 +108,7 @@ loop-again c =
 -- the sums are small
 bound : (c : tie.After-loop Inv-loop μ-loop) → (c .before .loop .held ≤ 1099512676080) × (c .before .loop .gave ≤ 1099512676080)
 bound c =
-    let most = valid-bounds _ (entry (c .before) .pre .0) .most in
+    let most = lawful-bounds _ (entry (c .before) .pre .0) .most in
     let all = c .before .loop .inv .1 in
     (omega (arith, all .held-small), omega (arith, all .gave-small))
 

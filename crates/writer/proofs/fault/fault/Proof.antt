@@ -3,7 +3,7 @@ use mathlib.Core.Path.{_≡_, refl, sym, ap, _∙_}
 use mathlib.Core.Bool.{Bool, true, false, cond}
 use borrow.Author.Needs.{needs}
 use borrow.Author.Tests.{not-true, not-false, lt-ltb, le-ltb, le-leb, lt-leb}
-use Rattle.config.specs.Cluster.{validOf}
+use Rattle.config.specs.Cluster.{lawfulOf}
 use lib.Dec.{eqb}
 use Rattle.config.specs.Refusals.{refusal}
 use Rattle.config.specs.declared.cluster.Config.{Config}
@@ -47,7 +47,7 @@ entry c = start (first (third (fourth c)))
 
 -- what each tells
 
-valid : (c : tie.Else1) → validOf (start c .args .config) ≡ true
+valid : (c : tie.Else1) → lawfulOf (start c .args .config) ≡ true
 valid c = sym (c .before .valid .ensures) ∙ not-false _ (c .if1 .left)
 
 kind : (c : tie.Else3) → within 1 3 (start (first c) .args .envelope .kind) ≡ true
@@ -76,7 +76,7 @@ passed : (c : tie.Else6) →
 passed c = enveloped (fifth c) ∙ simp (sym (c .before .fits2 .ensures) ∙ not-false _ (c .if6 .left))
 
 -- the check of a ledger, as a number's verdict
-checked : (c : Config) (l : Ledger) → validOf c ≡ true → checkAnswer c l ≡ verdictOf (cond (bounded c l) (cond (aboveFloor c l) 0 5) 4)
+checked : (c : Config) (l : Ledger) → lawfulOf c ≡ true → checkAnswer c l ≡ verdictOf (cond (bounded c l) (cond (aboveFloor c l) 0 5) 4)
 unfolding checkAnswer verdictOf
 checked c l v = rw v (by-tests (bounded c l) (aboveFloor c l))
   where
