@@ -277,6 +277,15 @@ fault-some c e = by-valid (validOf c)
     by-valid true = rw e (omega arith, omega arith)
     by-valid false = (omega arith, omega arith)
 
+-- 1 for n and f, and 15 for the start weights
+pub fault-first : (c : Config) → validOf c ≡ false → clusterFault c ≡ 1
+unfolding clusterFault
+fault-first c e = rw e refl
+
+pub fault-second : (c : Config) → validOf c ≡ true → lawfulOf c ≡ false → clusterFault c ≡ 15
+unfolding clusterFault
+fault-second c v e = rw (v, e) refl
+
 pub fault-lawful : (c : Config) → eqb (clusterFault c) 0 ≡ lawfulOf c
 fault-lawful c = by-lawful (lawfulOf c) refl
   where

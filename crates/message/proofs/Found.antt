@@ -58,7 +58,7 @@ module _ (c : Config) (e : Envelope) (r : Replica) where
         told-fits c r (record { lawful = house .0; ledger-bounded = bounds .0; ledger-above = floor .0; register-fits = register .0 }),
       )
 
-  no-fault : lawful c e ≡ true → fits c r ≡ true → faultOf c e r ≡ 0
+  pub no-fault : lawful c e ≡ true → fits c r ≡ true → faultOf c e r ≡ 0
   unfolding faultOf
   no-fault l f =
       let k = lawful-told c e l in

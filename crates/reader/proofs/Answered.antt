@@ -1,13 +1,14 @@
 -- What is answered, from the number of the check, from what was taken and from the sums of the sheet.
 use Prim.Native.Nat.{ℕ, _+_, _≤_}
 use native.Mathlib.Omega.{arith}
-use mathlib.Core.Path.{_≡_, sym, ap, ap₂, _∙_}
+use mathlib.Core.Path.{_≡_, refl, sym, ap, ap₂, _∙_}
 use mathlib.Core.Bool.{true, false}
 use mathlib.Core.List.{List}
 use lib.ListN.{length}
 use borrow.Author.Tests.{eq-eqb, ne-eqb, le-ltb}
 use Rattle.quorums.specs.Accounts.{weight, margin}
-use Rattle.config.specs.Cluster.{lawfulOf, serverOf}
+use Rattle.config.specs.Cluster.{lawfulOf, serverOf, clusterFault}
+use Rattle.config.proofs.Clusters.{lawful-valid, fault-some}
 use Rattle.config.specs.Refusals.{mostRefusal, refusal}
 use Rattle.config.specs.declared.answer.Refusal.{Refusal}
 use Rattle.config.specs.declared.answer.Verdict.{Verdict}
@@ -37,9 +38,9 @@ use Rattle.ledger.proofs.Weights.{received-sums, given-sums, sums-weight, sums-
 
 -- ---- the number of the check
 
-pub check-invalid : (c : Config) (msg : List ℕ) → lawfulOf c ≡ false → check c msg ≡ 1
+pub check-unlawful : (c : Config) (msg : List ℕ) → lawfulOf c ≡ false → check c msg ≡ clusterFault c
 unfolding check
-check-invalid c msg e = simp e
+check-unlawful c msg e = simp e
 
 check-found : (c : Config) (msg : List ℕ) (k : ℕ) → lawfulOf c ≡ true → k ≡ scanOf c msg .number → check c msg ≡ k
 unfolding check
@@ -47,9 +48,9 @@ check-found c msg k v e = simp v (sym e)
 
 -- and the verdict that goes by it
 
-pub verdict-invalid : (c : Config) (msg : List ℕ) → lawfulOf c ≡ false → Verdict.Refused (refusal 1) ≡ checkAnswer c msg
+pub verdict-unlawful : (c : Config) (msg : List ℕ) (k : ℕ) → lawfulOf c ≡ false → clusterFault c ≡ k → Verdict.Refused (refusal k) ≡ checkAnswer c msg
 unfolding checkAnswer verdictOf
-verdict-invalid c msg e = simp (check-invalid c msg e)
+verdict-unlawful c msg k e is = rw (check-unlawful c msg e, is, ne-eqb k 0 (λ z. omega (arith, z, is, fault-some c e .0))) refl
 
 module _ (c : Config) (msg : List ℕ) (k : ℕ) (valid : lawfulOf c ≡ true) (found : k ≡ scanOf c msg .number) where
   pub verdict-passed : k ≡ 0 → Verdict.Accepted ≡ checkAnswer c msg
@@ -67,14 +68,14 @@ found-refusal c msg k found ne = omega (arith, ne, found, scan-most c msg)
 -- ---- what is taken
 
 -- a cluster that isn't lawful
-module _ (c : Config) (msg : List ℕ) (invalid : lawfulOf c ≡ false) where
-  pub taken-invalid : untakenOf (refusal 1) ≡ takenOf c msg
+module _ (c : Config) (msg : List ℕ) (unlawful : lawfulOf c ≡ false) where
+  pub taken-unlawful : (k : ℕ) → clusterFault c ≡ k → untakenOf (refusal k) ≡ takenOf c msg
   unfolding takenOf receiveOf
-  taken-invalid = simp (check-invalid c msg invalid)
+  taken-unlawful k is = rw (check-unlawful c msg unlawful, is, ne-eqb k 0 (λ z. omega (arith, z, is, fault-some c unlawful .0))) refl
 
-  pub ledger-invalid : freshLedger ≡ takenLedger c msg
+  pub ledger-unlawful : freshLedger ≡ takenLedger c msg
   unfolding takenLedger
-  ledger-invalid = simp invalid
+  ledger-unlawful = simp unlawful
 
 -- and one that is
 pub ledger-valid : (c : Config) (msg : List ℕ) → lawfulOf c ≡ true → scanOf c msg .ledger ≡ takenLedger c msg
@@ -162,7 +163,7 @@ module _ (c : Config) (msg : List ℕ) {received given : List ℕ} (passed : che
   unfolding weightIn weightAnswer
   weight-answered i s =
       let sums = found passed in
-      rw (eq-eqb (check c msg) 0 passed, s)
+      rw (eq-eqb (check c msg) 0 passed, s, check-told c msg passed .0)
       (ap Signed.Value (ap₂ (λ r g. weight (accountsIn c r g) i) (sums .takes) (sums .gives) ∙ sums-weight c _ i s))
 
   -- the margin of a map
@@ -170,15 +171,15 @@ module _ (c : Config) (msg : List ℕ) {received given : List ℕ} (passed : che
   unfolding quorumIn quorumAnswer
   quorum-answered m e =
       let sums = found passed in
-      rw (eq-eqb (check c msg) 0 passed, e)
+      rw (eq-eqb (check c msg) 0 passed, e, check-told c msg passed .0)
       (ap Signed.Value
-      (ap₂ (λ r g. margin (c .n) (accountsIn c r g) (named m)) (sums .takes) (sums .gives) ∙ sums-margin c _ m (check-told c msg passed .0)))
+      (ap₂ (λ r g. margin (c .n) (accountsIn c r g) (named m)) (sums .takes) (sums .gives) ∙ sums-margin c _ m (lawful-valid c (check-told c msg passed .0))))
 
 -- a server that there isn't, and a map with a bit from n on
 
 pub server-refused : (c : Config) (i : ℕ) (msg : List ℕ) → check c msg ≡ 0 → c .n ≤ i → Signed.Refused (refusal 1) ≡ weightIn c i msg
 unfolding weightIn weightAnswer serverOf
-server-refused c i msg e h = simp (e, check-told c msg e .0, le-ltb i (c .n) h)
+server-refused c i msg e h = simp (e, lawful-valid c (check-told c msg e .0), le-ltb i (c .n) h)
 
 pub map-refused : (c : Config) (m : ℕ) (msg : List ℕ) → check c msg ≡ 0 → mapOf c m ≡ false → Signed.Refused (refusal 1) ≡ quorumIn c m msg
 unfolding quorumIn quorumAnswer

@@ -16,6 +16,7 @@ use Rattle.config.specs.declared.answer.Signed.{Signed}
 use Rattle.ledger.specs.Ledgers.{accountsOf}
 use Rattle.ledger.specs.Maps.{named, mapOf}
 use Rattle.ledger.specs.Weights.{marginOf, quorumOf}
+use Rattle.config.proofs.Clusters.{lawful-valid}
 use Rattle.ledger.proofs.Answers.{signed-not-refused, quorum-margin, quorum-number, told-quorum}
 use Rattle.ledger.proofs.Published.{quorum-majority, integrity}
 use Rattle.message.specs.Answers.{check, receiveOf}
@@ -38,11 +39,11 @@ quorum-told c map msg b = (
   λ t.
       let passes = chosen-first (eqb (check c msg) 0) _ _ _ (λ d. signed-not-refused _ _ (sym d)) (t .told) in
       let is = quorum-number c (receiveOf c msg .replica .ledger) map _ (passes .1) in
-      (eqb-true _ _ (passes .0), is .0, quorum-margin c _ map ∙ ap (ltZ (pos 0)) (sym (is .1)) ∙ t .above-zero),
+      (eqb-true _ _ (passes .0), is .0, quorum-margin c _ map ∙ ap (ltZ (pos 0)) (sym (is .2)) ∙ t .above-zero),
   λ t.
       record {
         number = marginOf c (receiveOf c msg .replica .ledger) map;
-        told = simp (t .0) (told-quorum c (receiveOf c msg .replica .ledger) map (t .1));
+        told = simp (t .0) (told-quorum c (receiveOf c msg .replica .ledger) map (t .1) (check-told c msg (t .0) .0));
         above-zero = sym (quorum-margin c _ map) ∙ t .2;
       },
 )
@@ -50,7 +51,7 @@ quorum-told c map msg b = (
 -- the sheet decides by Definition 1
 sheet-majority : (c : Config) (map : ℕ) (msg : List ℕ) → check c msg ≡ 0
     → (quorumOf c (receiveOf c msg .replica .ledger) map ≡ true) ↔ WeightedMajority (c .n) (accountsOf c (receiveOf c msg .replica .ledger)) (named map)
-sheet-majority c map msg e = quorum-majority c (receiveOf c msg .replica .ledger) map (check-told c msg e .0) (passed-bounded c msg e)
+sheet-majority c map msg e = quorum-majority c (receiveOf c msg .replica .ledger) map (lawful-valid c (check-told c msg e .0)) (passed-bounded c msg e)
 
 -- Definition 1: the number is above zero of a set of more than half of the weight of all servers,
 pub quorum-above : (c : Config) (map : ℕ) (msg : List ℕ)

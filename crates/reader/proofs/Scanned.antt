@@ -8,6 +8,7 @@ use lib.Dec.{eqb}
 use lib.ListN.{length, take}
 use lib.Seq.{take-all}
 use Rattle.config.specs.Cluster.{lawfulOf}
+use Rattle.config.proofs.Clusters.{lawful-valid}
 use Rattle.config.specs.declared.cluster.Config.{Config}
 use Rattle.ledger.specs.declared.ledger.Ledger.{Ledger}
 use Rattle.ledger.specs.Ledgers.{receivedOf, givenOf}
@@ -70,7 +71,7 @@ pub number-is : (c : Config) (msg : List ℕ) {received given : List ℕ} {n e :
     → e .number ≡ scanOf c msg .number
 unfolding scanOf fieldsOf endOf
 number-is c msg {received} {given} note valid takes gives end =
-    let above : allAbove c received given ≡ aboveFloor c (scanOf c msg .ledger) = rw (takes, gives) (sums-above c _ valid) in
+    let above : allAbove c received given ≡ aboveFloor c (scanOf c msg .ledger) = rw (takes, gives) (sums-above c _ (lawful-valid c valid)) in
     rw (end, above, note)
 
 -- a message that is lent on as a part is the whole one

@@ -9,6 +9,7 @@ use super::whole::register_in;
 use super::whole::taken_in;
 use super::whole::untaken;
 use config::Config;
+use config::Number;
 use config::Refusal;
 use config::Signed;
 use config::Verdict;
@@ -22,17 +23,20 @@ ghost use mathlib.Core.Path.{_≡_};
 ghost use Rattle.message.specs.Answers.{checkAnswer, receiveOf, takenOf, takenLedger, fieldsAnswer, valueAnswer};
 ghost use Rattle.reader.specs.Weighings.{weightIn, quorumIn};
 
-// The message check: 1 for the cluster, then the first fault of the message.
+// The message check: 1 or 15 for the cluster, then the first fault of the message.
 pub fn check(config: Config, msg: &[u8]) -> Verdict
     ensures { λ r. ⌜ r ≡ checkAnswer config (now (msg .entry)) ⌝ }
 {
     if !config.valid() {
         return Verdict::Refused(Refusal::BadHouse);
     }
+    let Number::Value(least) = config.least() else {
+        return Verdict::Refused(Refusal::BadStart);
+    };
     let mut received: [u64; 16] = [0; 16];
     let mut given: [u64; 16] = [0; 16];
     let note = scan(config, msg, &mut received, &mut given);
-    let end = finish(config, msg, &received, &given, note);
+    let end = finish(config, least, msg, &received, &given, note);
     if end.number != 0 {
         return Verdict::Refused(refusal(end.number));
     }
@@ -76,7 +80,10 @@ pub fn receive_lent(
     if !config.valid() {
         return untaken(Refusal::BadHouse);
     }
-    taken_in(config, msg, counts, cells)
+    let Number::Value(least) = config.least() else {
+        return untaken(Refusal::BadStart);
+    };
+    taken_in(config, least, msg, counts, cells)
 }
 
 // The same but for the value.

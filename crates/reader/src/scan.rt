@@ -9,6 +9,7 @@ use super::sums::above_floor;
 use super::weigh::weigh_sheet;
 use config::Config;
 use config::Meaning;
+use config::Number;
 use config::Refusal;
 use config::Verdict;
 use message::Cursor;
@@ -17,7 +18,7 @@ ghost use mathlib.Core.Bool.{true};
 ghost use Prim.Native.Nat.{_≤_};
 ghost use lib.Dec.{eqb};
 ghost use lib.ListN.{length, replicate};
-ghost use Rattle.config.specs.Cluster.{lawfulOf};
+ghost use Rattle.config.specs.Cluster.{lawfulOf, leastOf};
 ghost use Rattle.config.specs.Refusals.{mostRefusal, refusal as refusalOf};
 ghost use Rattle.ledger.specs.Ledgers.{receivedOf, givenOf};
 ghost use Rattle.quorums.specs.Tables.{table};
@@ -27,22 +28,23 @@ ghost use Rattle.message.specs.Answers.{check, checkAnswer};
 ghost use Rattle.ledger.specs.Sums.{Sums, allAbove};
 ghost use Rattle.reader.specs.Sums.{fieldsOf, SheetSums};
 
-// No bytes are left over, and every weight is above the floor.
+// No bytes are left over, and every weight is above the floor, where `least` is the least that is.
 pub(crate) fn finish(
     config: Config,
+    least: u64,
     msg: &[u8],
     received: &[u64],
     given: &[u64],
     note: Cursor,
 ) -> Cursor
-    requires { ⌜ (lawfulOf config ≡ true) × Sums 68719476720 (now received) × Sums 68719476720 (now given) ⌝ }
+    requires { ⌜ (lawfulOf config ≡ true) × (least ≡ leastOf config) × Sums 68719476720 (now received) × Sums 68719476720 (now given) ⌝ }
     ensures { λ r. ⌜ r ≡ requireOf (allAbove config (now (received .entry)) (now (given .entry))) 5 (requireOf (eqb (note .at) (length (now (msg .entry)))) 2 note) ⌝ }
 {
     let all = require(note.at == msg.len(), 2, note);
     if all.number != 0 {
         return all;
     }
-    require(above_floor(config, received, given), 5, all)
+    require(above_floor(config, least, received, given), 5, all)
 }
 
 // The fields, up to the note, with what each server received and gave into two lists of zeros.
@@ -91,8 +93,11 @@ pub(crate) fn weigh_message(
     if !config.valid() {
         return Verdict::Refused(Refusal::BadHouse);
     }
+    let Number::Value(least) = config.least() else {
+        return Verdict::Refused(Refusal::BadStart);
+    };
     let note = scan(config, &msg[0..], received, given);
-    let end = finish(config, msg, received, given, note);
+    let end = finish(config, least, msg, received, given, note);
     if end.number != 0 {
         return Verdict::Refused(refusal(end.number));
     }

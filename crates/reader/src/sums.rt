@@ -1,23 +1,19 @@
 // Weights and margins, from what each server received and gave.
 use super::cursor::bit;
 use config::Config;
-use config::Number;
 ghost use mathlib.Core.Path.{_≡_};
 ghost use mathlib.Core.Bool.{true};
 ghost use Rattle.quorums.specs.Accounts.{weight as weightOf, margin};
-ghost use Rattle.config.specs.Cluster.{lawfulOf, serverOf};
+ghost use Rattle.config.specs.Cluster.{lawfulOf, serverOf, leastOf};
 ghost use Rattle.ledger.specs.Maps.{named};
 ghost use Rattle.ledger.specs.Sums.{accountsIn, allAbove, Sums};
 
-// Whether every weight is above the floor.
-pub(crate) fn above_floor(config: Config, received: &[u64], given: &[u64]) -> bool
-    requires { ⌜ (lawfulOf config ≡ true) × Sums 68719476720 (now received) × Sums 68719476720 (now given) ⌝ }
+// Whether every weight is above the floor, where `least` is the least that is.
+pub(crate) fn above_floor(config: Config, least: u64, received: &[u64], given: &[u64]) -> bool
+    requires { ⌜ (lawfulOf config ≡ true) × (least ≡ leastOf config) × Sums 68719476720 (now received) × Sums 68719476720 (now given) ⌝ }
     ensures { λ r. ⌜ r ≡ allAbove config (now (received .entry)) (now (given .entry)) ⌝ }
 {
     let n = config.n as usize;
-    let Number::Value(least) = config.least() else {
-        return false;
-    };
     let mut i: usize = 0;
     while i < n {
         if config.start_at(i as u64) + received[i] < given[i] + least {
@@ -44,14 +40,13 @@ pub(crate) fn margin_of(config: Config, received: &[u64], given: &[u64], map: u6
     ensures { λ r. ⌜ r ≡ margin (config .n) (accountsIn config (now (received .entry)) (now (given .entry))) (named map) ⌝ }
 {
     let n = config.n as usize;
-    let Number::Value(total) = config.total() else {
-        return 0;
-    };
+    let mut total: u64 = 0;
     let mut held: u64 = 0;
     let mut gave: u64 = 0;
     let mut i: usize = 0;
     while i < n {
         let start = config.start_at(i as u64);
+        total += start;
         if bit(map, i) == 1 {
             held = held + start + received[i];
             gave = gave + given[i];

@@ -18,7 +18,7 @@ use replica::Register;
 ghost use mathlib.Core.Path.{_≡_};
 ghost use mathlib.Core.Bool.{true};
 ghost use lib.ListN.{replicate};
-ghost use Rattle.config.specs.Cluster.{lawfulOf};
+ghost use Rattle.config.specs.Cluster.{lawfulOf, leastOf};
 ghost use Rattle.format.specs.Bytes.{bit as bitOf};
 ghost use Rattle.message.specs.Scans.{headOf, registerOf, scanOf};
 ghost use Rattle.message.specs.Answers.{takenOf, untakenOf};
@@ -33,9 +33,15 @@ pub(crate) fn register_in(config: Config, msg: &[u8]) -> RegisterRead
     read_register(config, msg, bit(head.map, 4), from)
 }
 
-// What a message says, in one pass over its bytes, its ledger into arrays of zeros.
-pub(crate) fn taken_in(config: Config, msg: &[u8], counts: &mut [u16], cells: &mut [u32]) -> Taken
-    requires { ⌜ (lawfulOf config ≡ true) × (now counts ≡ replicate 16 0) × (now cells ≡ replicate 256 0) ⌝ }
+// What a message says, in one pass over its bytes, its ledger into arrays of zeros. `least` is the least weight above the floor.
+pub(crate) fn taken_in(
+    config: Config,
+    least: u64,
+    msg: &[u8],
+    counts: &mut [u16],
+    cells: &mut [u32],
+) -> Taken
+    requires { ⌜ (lawfulOf config ≡ true) × (least ≡ leastOf config) × (now counts ≡ replicate 16 0) × (now cells ≡ replicate 256 0) ⌝ }
     ensures { λ r. ⌜ (r ≡ takenOf config (now (msg .entry))) × (now (counts .exit) ≡ scanOf config (now (msg .entry)) .ledger .counts) × (now (cells .exit) ≡ scanOf config (now (msg .entry)) .ledger .cells) ⌝ }
 {
     let mut received: [u64; 16] = [0; 16];
@@ -55,7 +61,7 @@ pub(crate) fn taken_in(config: Config, msg: &[u8], counts: &mut [u16], cells: &m
         &mut given,
     );
     let note = read_number(msg, bit(head.map, 6), 4, 1, MOST_FOUR, sheet);
-    let end = finish(config, msg, &received, &given, note);
+    let end = finish(config, least, msg, &received, &given, note);
     if end.number != 0 {
         return untaken(refusal(end.number));
     }

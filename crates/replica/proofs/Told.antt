@@ -27,6 +27,7 @@ refused-fits c r k e = by-lawful (lawfulOf c) refl
     by-tests : (b f : Bool) → cond b f false ≡ false → false ≡ cond b (cond f (registerFits c (r .register)) false) false
     by-tests true f d = rw d refl
     by-tests false f d = refl
+
     by-lawful : (t : Bool) → lawfulOf c ≡ t → false ≡ cond t (cond (bounded c (r .ledger)) (cond (aboveFloor c (r .ledger)) (registerFits c (r .register)) false) false) false
     by-lawful true v = by-tests (bounded c (r .ledger)) (aboveFloor c (r .ledger)) (check-refused c (r .ledger) k v e)
     by-lawful false v = refl

@@ -55,7 +55,7 @@ is-taken c e counts cells g te tr none =
     record {
       not-long = written-short c e r te tr clean;
       short = fits-short (g .value) (fits-value c g (told .register-fits));
-      servers = lawful-bounds c (told .valid) .most;
+      servers = lawful-bounds c (told .lawful) .most;
       counted = λ i h. given i (told .ledger-bounded) h .0;
       below = λ i l h. given i (told .ledger-bounded) h .1 (sum-zero 16 _ (λ j k. cell-outside c (r .ledger) i j (told .ledger-bounded) h k (inl l)));
     }

@@ -1,5 +1,6 @@
 // The call.
 use super::fault::fault;
+use super::fault::sends;
 use super::outline::narrow;
 use super::whole::fill;
 use config::Config;
@@ -87,8 +88,7 @@ pub fn send_lent(
 ) -> Number
     ensures { λ r. ⌜ (r ≡ sendOf config envelope (replicaOf (now (counts .entry)) (now (cells .entry)) register) (now (out .entry)) at .answer) × (now (out .exit) ≡ sendOf config envelope (replicaOf (now (counts .entry)) (now (cells .entry)) register) (now (out .entry)) at .out) ⌝ }
 {
-    let verdict = fault(config, envelope, counts, cells, register);
-    if let Verdict::Refused(_) = verdict {
+    if !sends(config, envelope, counts, cells, register) {
         return Number::Refused(Refusal::BadHouse);
     }
     put_message(config, envelope, counts, cells, register, out, at)

@@ -1,28 +1,29 @@
--- `check` meets its contract: 1 for the cluster, then the number of the scan.
+-- `check` meets its contract: 1 or 15 for the cluster, then the number of the scan.
 use mathlib.Core.Path.{_≡_, refl, sym, _∙_}
 use mathlib.Core.Bool.{true}
 use borrow.Author.Needs.{needs}
 use borrow.Author.Tests.{not-true, not-false}
-use Rattle.config.specs.Cluster.{lawfulOf}
+use Rattle.config.specs.Cluster.{lawfulOf, leastOf}
+use Rattle.config.proofs.Clusters.{not-lawful, least-told, least-refused, fault-first, fault-second}
 use Rattle.message.specs.Scans.{scanOf}
-use Rattle.reader.proofs.Answered.{verdict-invalid, verdict-passed, verdict-found, found-refusal, received-small, given-small}
+use Rattle.reader.proofs.Answered.{verdict-unlawful, verdict-passed, verdict-found, found-refusal, received-small, given-small}
 use Rattle.reader.proofs.Scanned.{number-is}
 use Rattle.reader.proofs.read.check.Statement.{statement}
 use Rattle.reader.proofs.read.check.Tie as tie
 
 -- each step from the one after it: the test of the cluster, the fields, the end
 
-abbrev tested : tie.After-scan → tie.Else1
+abbrev tested : tie.After-scan → tie.After-known-told
 tested c = c .before .before .before
 
 abbrev scanned : tie.After-finish → tie.After-scan
 scanned c = c .before .before .before .before .before
 
-abbrev start : tie.Else1 → tie.Start
-start c = c .before .before .before
+abbrev start : tie.After-known-told → tie.Start
+start c = c .before .before .before .before .before .before .before
 
-valid : (c : tie.Else1) → lawfulOf (start c .args .config) ≡ true
-valid c = sym (c .before .valid .ensures) ∙ not-false _ (c .if1 .left)
+least : (c : tie.After-known-told) → (lawfulOf (start c .args .config) ≡ true) × (c .before .least2 .given .0 .0 ≡ leastOf (start c .args .config))
+least c = least-told _ _ (sym (c .before .before .before .least .ensures) ∙ c .before .least2 .given .1)
 
 found : (c : tie.After-finish) →
     let a = start (tested (scanned c)) .args in
@@ -30,13 +31,29 @@ found : (c : tie.After-finish) →
 found c =
     let s = scanned c in
     let scan = s .scan .ensures in
-    number-is _ _ (scan .0) (valid (tested s)) (scan .1) (scan .2) (c .finish .ensures)
+    number-is _ _ (scan .0) (least (tested s) .0) (scan .1) (scan .2) (c .finish .ensures)
 
 valid-requires : tie.Need-valid-requires
 valid-requires c κs = search needs
 
 returns : tie.Need-returns
-returns c = verdict-invalid _ _ (sym (c .before .valid .ensures) ∙ not-true _ (c .if1 .taken))
+returns c = let out = sym (c .before .valid .ensures) ∙ not-true _ (c .if1 .taken) in verdict-unlawful _ _ 1 (not-lawful _ out) (fault-first _ out)
+
+least-requires : tie.Need-least-requires
+least-requires c κs = search needs
+
+enum-known-least : tie.Need-enum-known-least
+enum-known-least c = search needs
+
+enum-told : tie.Need-enum-told
+enum-told c = search needs
+
+returns-2 : tie.Need-returns-2
+returns-2 c =
+    let l = c .before .before in
+    let valid = sym (l .before .before .valid .ensures) ∙ not-false _ (l .before .if1 .left) in
+    let out = least-refused _ _ (sym (l .least .ensures) ∙ c .enum-told .given .1) .0 in
+    verdict-unlawful _ _ 15 out (fault-second _ valid out)
 
 slice-aggregate-scan : tie.Need-slice-aggregate-scan
 slice-aggregate-scan c = search needs
@@ -45,7 +62,7 @@ slice-aggregate-scan-2 : tie.Need-slice-aggregate-scan-2
 slice-aggregate-scan-2 c = search needs
 
 scan-requires : tie.Need-scan-requires
-scan-requires c κs = (valid (c .before .before), refl, refl)
+scan-requires c κs = (least (c .before .before) .0, refl, refl)
 
 slice-aggregate-finish : tie.Need-slice-aggregate-finish
 slice-aggregate-finish c = search needs
@@ -57,20 +74,20 @@ finish-requires : tie.Need-finish-requires
 finish-requires c κs =
     let s : tie.After-scan = c .before .before .before .before in
     let scan = s .scan .ensures in
-    (valid (tested s), received-small _ _ (scan .1), given-small _ _ (scan .2))
+    (least (tested s) .0, least (tested s) .1, received-small _ _ (scan .1), given-small _ _ (scan .2))
 
 refusal-requires : tie.Need-refusal-requires
 refusal-requires c κs = found-refusal _ _ _ (found (c .before .before)) (c .if2 .taken)
 
-returns-2 : tie.Need-returns-2
-returns-2 c =
-    let end : tie.After-finish = c .before .before .before in
-    verdict-found _ _ _ (valid (tested (scanned end))) (found end) _ (c .before .if2 .taken) (c .refusal .ensures)
-
 returns-3 : tie.Need-returns-3
 returns-3 c =
+    let end : tie.After-finish = c .before .before .before in
+    verdict-found _ _ _ (least (tested (scanned end)) .0) (found end) _ (c .before .if2 .taken) (c .refusal .ensures)
+
+returns-4 : tie.Need-returns-4
+returns-4 c =
     let end : tie.After-finish = c .before .before in
-    verdict-passed _ _ _ (valid (tested (scanned end))) (found end) (c .if2 .left)
+    verdict-passed _ _ _ (least (tested (scanned end)) .0) (found end) (c .if2 .left)
 
 pub check-spec : {M : Type 1} → statement M
 check-spec =
@@ -78,6 +95,10 @@ check-spec =
     (tie.spec
     valid-requires
     returns
+    least-requires
+    enum-known-least
+    enum-told
+    returns-2
     slice-aggregate-scan
     slice-aggregate-scan-2
     scan-requires
@@ -85,5 +106,5 @@ check-spec =
     slice-aggregate-finish-2
     finish-requires
     refusal-requires
-    returns-2
-    returns-3)
+    returns-3
+    returns-4)

@@ -6,10 +6,10 @@ use mathlib.Core.Bool.{true}
 use borrow.Author.Needs.{needs}
 use borrow.Author.Tests.{eq-eqb, ne-eqb}
 use lib.Dec.{eqb}
-use Rattle.config.specs.Cluster.{lawfulOf}
+use Rattle.config.specs.Cluster.{validOf, lawfulOf}
 use Rattle.config.specs.declared.cluster.Config.{Config}
 use Rattle.config.specs.declared.answer.Signed.{Signed}
-use Rattle.config.proofs.Clusters.{lawful-bounds}
+use Rattle.config.proofs.Clusters.{lawful-valid, lawful-bounds}
 use Rattle.ledger.specs.Maps.{mapOf}
 use Rattle.ledger.proofs.Answers.{read-back}
 use Rattle.ledger.proofs.Maps.{shifted-zero}
@@ -22,7 +22,7 @@ use Rattle.reader.proofs.read.quorum.Statement.{statement}
 use Rattle.reader.proofs.read.quorum.Tie as tie
 
 -- the map is tested by what is left of it after n bits
-map-is : (c : Config) (m : ℕ) → lawfulOf c ≡ true → mapOf c m ≡ eqb (m / 2 ^ c .n) 0
+map-is : (c : Config) (m : ℕ) → validOf c ≡ true → mapOf c m ≡ eqb (m / 2 ^ c .n) 0
 unfolding mapOf
 map-is c m v = simp v (sym (shifted-zero m (c .n)))
 
@@ -83,7 +83,7 @@ returns-2 : tie.Need-returns-2
 returns-2 c =
     let found = c .before .before in
     let a = start (weighed found) .args in
-    map-refused _ _ _ (passed found) (map-is _ _ (valid found) ∙ ne-eqb (a .map / 2 ^ a .config .n) 0 (c .if1 .taken))
+    map-refused _ _ _ (passed found) (map-is _ _ (lawful-valid _ (valid found)) ∙ ne-eqb (a .map / 2 ^ a .config .n) 0 (c .if1 .taken))
 
 slice-aggregate-margin-of : tie.Need-slice-aggregate-margin-of
 slice-aggregate-margin-of c = search needs
@@ -101,7 +101,7 @@ returns-3 : tie.Need-returns-3
 returns-3 c =
     let found = matched (mapped c) in
     let a = start (weighed found) .args in
-    let inside : mapOf (a .config) (a .map) ≡ true = map-is _ _ (valid found) ∙ eq-eqb (a .map / 2 ^ a .config .n) 0 (mapped c .if1 .left) in
+    let inside : mapOf (a .config) (a .map) ≡ true = map-is _ _ (lawful-valid _ (valid found)) ∙ eq-eqb (a .map / 2 ^ a .config .n) 0 (mapped c .if1 .left) in
     ap Signed.Value (read-back (c .margin-of .result) (c .margin-of .ok) ∙ c .margin-of .ensures)
     ∙ quorum-answered _ _ (passed found) (weighed found .weigh-message .ensures .1) _ inside
 

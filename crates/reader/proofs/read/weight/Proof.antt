@@ -4,7 +4,7 @@ use mathlib.Core.Bool.{true}
 use borrow.Author.Needs.{needs}
 use Rattle.config.specs.Cluster.{lawfulOf, serverOf}
 use Rattle.config.specs.declared.answer.Signed.{Signed}
-use Rattle.config.proofs.Clusters.{valid-server}
+use Rattle.config.proofs.Clusters.{lawful-valid, valid-server}
 use Rattle.ledger.proofs.Answers.{read-back}
 use Rattle.message.specs.Answers.{check, checkAnswer}
 use Rattle.message.proofs.Rounds.{check-told}
@@ -37,7 +37,7 @@ valid : (c : tie.After-enum-told) → lawfulOf (start (weighed c) .args .config)
 valid c = check-told _ _ (passed c) .0
 
 server : (c : tie.Else1) → let a = start (weighed (matched c)) .args in serverOf (a .config) (a .server) ≡ true
-server c = valid-server _ _ (valid (matched c)) (c .if1 .left)
+server c = valid-server _ _ (lawful-valid _ (valid (matched c))) (c .if1 .left)
 
 slice-aggregate-weigh-message : tie.Need-slice-aggregate-weigh-message
 slice-aggregate-weigh-message c = search needs

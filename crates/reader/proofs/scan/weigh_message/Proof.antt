@@ -1,12 +1,20 @@
--- `weigh_message` meets its contract: 1 for the cluster, then the number of the scan and its sums.
+-- `weigh_message` meets its contract: 1 or 15 for the cluster, then the number of the scan and its sums.
+use Prim.Native.Nat.{ℕ}
 use native.Mathlib.Omega.{arith}
 use mathlib.Core.Path.{_≡_, sym, _∙_}
 use mathlib.Core.Bool.{true, false}
+use mathlib.Core.List.{List}
 use borrow.Author.Needs.{needs}
 use borrow.Author.Tests.{not-true, not-false}
-use Rattle.config.specs.Cluster.{lawfulOf}
+use Rattle.config.specs.Cluster.{lawfulOf, clusterFault, leastOf}
+use Rattle.config.specs.Refusals.{refusal}
+use Rattle.config.specs.declared.cluster.Config.{Config}
+use Rattle.config.specs.declared.answer.Verdict.{Verdict}
+use Rattle.config.proofs.Clusters.{not-lawful, least-told, least-refused, fault-some, fault-first, fault-second}
+use Rattle.message.specs.Answers.{check, checkAnswer}
+use Rattle.reader.specs.Sums.{SheetSums}
 use Rattle.message.specs.Scans.{scanOf}
-use Rattle.reader.proofs.Answered.{check-invalid, verdict-invalid, verdict-passed, verdict-found, found-refusal, sums-found, received-small, given-small}
+use Rattle.reader.proofs.Answered.{check-unlawful, verdict-unlawful, verdict-passed, verdict-found, found-refusal, sums-found, received-small, given-small}
 use Rattle.reader.proofs.Scanned.{number-is, scanned-part}
 use Rattle.reader.proofs.scan.weigh_message.Statement.{statement}
 use Rattle.reader.proofs.scan.weigh_message.Tie as tie
@@ -16,31 +24,53 @@ use Rattle.reader.proofs.scan.weigh_message.Tie as tie
 abbrev start : tie.After-valid → tie.Start
 start c = c .before .before .before .before
 
-abbrev tested : tie.After-scan → tie.Else1
+abbrev entry : tie.After-known-told → tie.Start
+entry c = start (c .before .before .before .before .before)
+
+abbrev tested : tie.After-scan → tie.After-known-told
 tested c = c .before .before .before .before
 
 abbrev scanned : tie.After-finish → tie.After-scan
 scanned c = c .before .before .before .before .before .before .before
 
-valid : (c : tie.Else1) → lawfulOf (start (c .before) .args .config) ≡ true
-valid c = sym (c .before .valid .ensures) ∙ not-false _ (c .if1 .left)
+least : (c : tie.After-known-told) → (lawfulOf (entry c .args .config) ≡ true) × (c .before .least2 .given .0 .0 ≡ leastOf (entry c .args .config))
+least c = least-told _ _ (sym (c .before .before .before .least .ensures) ∙ c .before .least2 .given .1)
 
 found : (c : tie.After-finish) →
-    let a = start (tested (scanned c) .before) .args in
+    let a = entry (tested (scanned c)) .args in
     c .finish .result .number ≡ scanOf (a .config) (a .msg .now) .number
 found c =
     let s = scanned c in
-    let scan = scanned-part _ (start (tested s .before) .args .msg .now) (s .scan .ensures) in
-    number-is _ _ (scan .0) (valid (tested s)) (scan .1) (scan .2) (c .finish .ensures)
+    let scan = scanned-part _ (entry (tested s) .args .msg .now) (s .scan .ensures) in
+    number-is _ _ (scan .0) (least (tested s) .0) (scan .1) (scan .2) (c .finish .ensures)
 
 valid-requires : tie.Need-valid-requires
 valid-requires c κs = search needs
 
+-- what a cluster that isn't lawful comes to
+unlawful : (config : Config) (msg : List ℕ) (k : ℕ) {received given : List ℕ} → lawfulOf config ≡ false → clusterFault config ≡ k
+    → (Verdict.Refused (refusal k) ≡ checkAnswer config msg) × (check config msg ≡ 0 → SheetSums config msg received given)
+unlawful config msg k out is =
+    (verdict-unlawful config msg k out is, λ e. absurd (omega (arith, check-unlawful config msg out, fault-some config out .0)))
+
 returns : tie.Need-returns
-returns c =
-    let a = start (c .before) .args in
-    let out : lawfulOf (a .config) ≡ false = sym (c .before .valid .ensures) ∙ not-true _ (c .if1 .taken) in
-    (verdict-invalid _ _ out, λ e. absurd (omega (arith, check-invalid (a .config) (a .msg .now) out)))
+returns c = let out = sym (c .before .valid .ensures) ∙ not-true _ (c .if1 .taken) in unlawful _ _ 1 (not-lawful _ out) (fault-first _ out)
+
+least-requires : tie.Need-least-requires
+least-requires c κs = search needs
+
+enum-known-least : tie.Need-enum-known-least
+enum-known-least c = search needs
+
+enum-told : tie.Need-enum-told
+enum-told c = search needs
+
+returns-2 : tie.Need-returns-2
+returns-2 c =
+    let l = c .before .before in
+    let valid = sym (l .before .before .valid .ensures) ∙ not-false _ (l .before .if1 .left) in
+    let out = least-refused _ _ (sym (l .least .ensures) ∙ c .enum-told .given .1) .0 in
+    unlawful _ _ 15 out (fault-second _ valid out)
 
 sub-scan : tie.Need-sub-scan
 sub-scan c = search needs
@@ -53,15 +83,14 @@ part-scan-end c = search needs
 
 scan-requires : tie.Need-scan-requires
 scan-requires c κs =
-    let test : tie.Else1 = c .before .before .before in
-    let c0 = start (test .before) in
-    (valid test, c0 .pre .0, c0 .pre .1)
+    let test : tie.After-known-told = c .before .before .before in
+    (least test .0, entry test .pre .0, entry test .pre .1)
 
 finish-requires : tie.Need-finish-requires
 finish-requires c κs =
     let s : tie.After-scan = c .before .before .before .before .before .before in
-    let scan = scanned-part _ (start (tested s .before) .args .msg .now) (s .scan .ensures) in
-    (valid (tested s), received-small _ _ (scan .1), given-small _ _ (scan .2))
+    let scan = scanned-part _ (entry (tested s) .args .msg .now) (s .scan .ensures) in
+    (least (tested s) .0, least (tested s) .1, received-small _ _ (scan .1), given-small _ _ (scan .2))
 
 refusal-requires : tie.Need-refusal-requires
 refusal-requires c κs = found-refusal _ _ _ (found (c .before .before)) (c .if2 .taken)
@@ -72,12 +101,12 @@ same-length c = search needs
 same-length-2 : tie.Need-same-length-2
 same-length-2 c = search needs
 
-returns-2 : tie.Need-returns-2
-returns-2 c =
+returns-3 : tie.Need-returns-3
+returns-3 c =
     let end : tie.After-finish = c .before .before .before in
     let s = scanned end in
-    let scan = scanned-part _ (start (tested s .before) .args .msg .now) (s .scan .ensures) in (
-      verdict-found _ _ _ (valid (tested s)) (found end) _ (c .before .if2 .taken) (c .refusal .ensures),
+    let scan = scanned-part _ (entry (tested s) .args .msg .now) (s .scan .ensures) in (
+      verdict-found _ _ _ (least (tested s) .0) (found end) _ (c .before .if2 .taken) (c .refusal .ensures),
       λ e. sums-found _ _ e (scan .1) (scan .2),
     )
 
@@ -87,12 +116,12 @@ same-length-3 c = search needs
 same-length-4 : tie.Need-same-length-4
 same-length-4 c = search needs
 
-returns-3 : tie.Need-returns-3
-returns-3 c =
+returns-4 : tie.Need-returns-4
+returns-4 c =
     let end : tie.After-finish = c .before .before in
     let s = scanned end in
-    let scan = scanned-part _ (start (tested s .before) .args .msg .now) (s .scan .ensures) in
-    (verdict-passed _ _ _ (valid (tested s)) (found end) (c .if2 .left), λ e. sums-found _ _ e (scan .1) (scan .2))
+    let scan = scanned-part _ (entry (tested s) .args .msg .now) (s .scan .ensures) in
+    (verdict-passed _ _ _ (least (tested s) .0) (found end) (c .if2 .left), λ e. sums-found _ _ e (scan .1) (scan .2))
 
 pub weigh-message-spec : {M : Type 1} → statement M
 weigh-message-spec =
@@ -100,6 +129,10 @@ weigh-message-spec =
     (tie.spec
     valid-requires
     returns
+    least-requires
+    enum-known-least
+    enum-told
+    returns-2
     sub-scan
     part-scan-start
     part-scan-end
@@ -108,7 +141,7 @@ weigh-message-spec =
     refusal-requires
     same-length
     same-length-2
-    returns-2
+    returns-3
     same-length-3
     same-length-4
-    returns-3)
+    returns-4)

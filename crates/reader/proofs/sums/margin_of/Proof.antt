@@ -2,39 +2,26 @@
 -- signed readings, and the difference, are themselves.
 use Prim.Native.Nat.{_+_, _-_, _*_, _≤_, _<_, _^_}
 use native.Mathlib.Omega.{arith}
-use mathlib.Core.Path.{_≡_, sym, _∙_}
+use mathlib.Core.Path.{_≡_, refl, sym, _∙_}
 use mathlib.Core.Logic.{⊎-elim}
 use borrow.Author.Needs.{needs}
 use borrow.Author.Tests.{eq-eqb, ne-eqb}
 use lib.ListN.{getD}
 use mir.Facts.{toZ-ofZ}
-use Rattle.config.specs.Answers.{totalAnswer}
-use Rattle.config.specs.declared.answer.Number.{Number}
+use Rattle.config.specs.Cluster.{totalOf}
 use Rattle.config.proofs.Clusters.{lawful-bounds}
 use Rattle.format.specs.Bytes.{bit}
 use Rattle.ledger.specs.Maps.{named}
 use Rattle.ledger.proofs.Answers.{gap-is, gap-fits}
-use Rattle.ledger.proofs.Weights.{total-stands, total-bound, Counted, counted-none, counted-room, counted-named, counted-passed, margin-at}
+use Rattle.ledger.proofs.Weights.{Counted, counted-none, counted-room, counted-named, counted-passed, margin-at}
 use Rattle.reader.proofs.sums.margin_of.Statement.{statement}
 use Rattle.reader.proofs.sums.margin_of.Tie as tie
 
 abbrev Inv-loop : tie.InvT-loop
-Inv-loop config received given map n total held₀ gave₀ i₀ held gave i = (i ≤ config .n) × Counted config received given map i held gave
+Inv-loop config received given map n total₀ held₀ gave₀ i₀ total held gave i = (i ≤ config .n) × Counted config received given map i total held gave
 
 abbrev μ-loop : tie.MeasureT-loop
-μ-loop config received given map n total held₀ gave₀ i₀ held gave i = config .n - i
-
-total-requires : tie.Need-total-requires Inv-loop μ-loop
-total-requires c κs = search needs
-
-enum-known-total : tie.Need-enum-known-total Inv-loop μ-loop
-enum-known-total c = search needs
-
-enum-told : tie.Need-enum-told Inv-loop μ-loop
-enum-told c = search needs
-
-returns : tie.Need-returns Inv-loop μ-loop
-returns c = absurd (total-stands _ _ (c .before .before .before .before .before .pre .0) (sym (c .before .before .total .ensures) ∙ c .enum-told .given .1))
+μ-loop config received given map n total₀ held₀ gave₀ i₀ total held gave i = config .n - i
 
 loop-holds : tie.Need-loop-holds Inv-loop μ-loop
 loop-holds c = (omega arith, counted-none _ _ _ _)
@@ -45,7 +32,7 @@ start-at-requires c κs = search needs
 -- the entry, and the turn
 
 abbrev entry : tie.At-loop Inv-loop μ-loop → tie.Start Inv-loop μ-loop
-entry c = c .before .before .before .before .before .before .before
+entry c = c .before .before .before
 
 abbrev turn : tie.After-start-at Inv-loop μ-loop → tie.At-loop Inv-loop μ-loop
 turn c = c .before .before
@@ -57,10 +44,13 @@ small c = omega (arith, c .loop-test .taken, lawful-bounds _ (entry (c .before) 
 room : (c : tie.After-start-at Inv-loop μ-loop) →
     let a = entry (turn c) .args in
     let l = turn c .loop in
-    (l .held + c .start-at .result + getD (a .received .now) (l .i) 0 ≤ 1099512676080) × (l .gave + getD (a .given .now) (l .i) 0 ≤ 1099512676080)
+    (l .total + c .start-at .result ≤ 1048560) × (l .held + c .start-at .result + getD (a .received .now) (l .i) 0 ≤ 1099512676080) × (l .gave + getD (a .given .now) (l .i) 0 ≤ 1099512676080)
 room c =
     let s = entry (turn c) in
-    counted-room (turn c .loop .inv .1) (s .pre .1) (s .pre .2) (c .start-at .ensures) (small (c .before))
+    counted-room (turn c .loop .inv .1) (s .pre .1) (s .pre .2) (c .start-at .ensures .0) (c .start-at .ensures .1) (small (c .before))
+
+add-total : tie.Need-add-total Inv-loop μ-loop
+add-total c = omega (arith, room c .0)
 
 bit-requires : tie.Need-bit-requires Inv-loop μ-loop
 bit-requires c κs = small (c .before)
@@ -100,26 +90,23 @@ loop-again c =
     let sums = turn x .loop .inv .1 in
     let read = c .before .bit .ensures .0 in (
       omega (arith, x .before .loop-test .taken),
-      ⊎-elim (λ w. counted-named sums (s .pre .1) (s .pre .2) (x .start-at .ensures) (eq-eqb _ 1 (sym read ∙ w .0 .taken)) (w .3) (w .4))
-          (λ w. counted-passed sums (s .pre .1) (s .pre .2) (x .start-at .ensures) (ne-eqb _ 1 (λ e. w .0 .left (read ∙ e))) (w .1) (w .2))
+      ⊎-elim (λ w. counted-named sums (s .pre .1) (s .pre .2) (x .start-at .ensures .0) (x .start-at .ensures .1) (eq-eqb _ 1 (sym read ∙ w .0 .taken)) refl (w .3) (w .4))
+          (λ w. counted-passed sums (s .pre .1) (s .pre .2) (x .start-at .ensures .0) (x .start-at .ensures .1) (ne-eqb _ 1 (λ e. w .0 .left (read ∙ e))) refl (w .1) (w .2))
           (c .if1 .came),
     )
 
 -- the sums are small
-bound : (c : tie.After-loop Inv-loop μ-loop) → (c .before .loop .held ≤ 1099512676080) × (c .before .loop .gave ≤ 1099512676080)
+bound : (c : tie.After-loop Inv-loop μ-loop) → (c .before .loop .total ≤ 1048560) × (c .before .loop .held ≤ 1099512676080) × (c .before .loop .gave ≤ 1099512676080)
 bound c =
     let most = lawful-bounds _ (entry (c .before) .pre .0) .most in
     let all = c .before .loop .inv .1 in
-    (omega (arith, all .held-small), omega (arith, all .gave-small))
-
-total-is : (c : tie.After-known-told Inv-loop μ-loop) → totalAnswer (c .before .before .before .before .before .before .args .config) ≡ Number.Value (c .before .total2 .given .0 .0)
-total-is c = sym (c .before .before .before .total .ensures) ∙ c .before .total2 .given .1
+    (omega (arith, all .total-small), omega (arith, all .held-small), omega (arith, all .gave-small))
 
 mul-less : tie.Need-mul-less Inv-loop μ-loop
 mul-less c = omega (arith, bound c)
 
 add-less : tie.Need-add-less Inv-loop μ-loop
-add-less c = omega (arith, bound c, total-bound _ _ (total-is (c .before .before)))
+add-less c = omega (arith, bound c)
 
 mul-result : tie.Need-mul-result Inv-loop μ-loop
 mul-result c = omega (arith, bound c)
@@ -128,8 +115,8 @@ mul-result c = omega (arith, bound c)
 held-small : (c : tie.After-loop Inv-loop μ-loop) → 2 * c .before .loop .held < 2 ^ 62
 held-small c = omega (arith, bound c)
 
-less-small : (c : tie.After-loop Inv-loop μ-loop) → 2 * c .before .loop .gave + c .before .before .before .total2 .given .0 .0 < 2 ^ 62
-less-small c = omega (arith, bound c, total-bound _ _ (total-is (c .before .before)))
+less-small : (c : tie.After-loop Inv-loop μ-loop) → 2 * c .before .loop .gave + c .before .loop .total < 2 ^ 62
+less-small c = omega (arith, bound c)
 
 cast-result : tie.Need-cast-result Inv-loop μ-loop
 cast-result c = omega (arith, held-small c)
@@ -140,15 +127,16 @@ cast-result-2 c = omega (arith, less-small c)
 sub-result : tie.Need-sub-result Inv-loop μ-loop
 sub-result c = gap-fits _ _ (held-small c) (less-small c)
 
-returns-2 : tie.Need-returns-2 Inv-loop μ-loop
-returns-2 c =
+returns : tie.Need-returns Inv-loop μ-loop
+unfolding totalOf
+returns c =
     let a = entry (c .before) .args in
     let l = c .before .loop in
     let e : l .i ≡ a .config .n = omega arith in
-    let all : Counted (a .config) (a .received .now) (a .given .now) (a .map) (a .config .n) (l .held) (l .gave) = rw e at (l .inv .1) in
+    let all : Counted (a .config) (a .received .now) (a .given .now) (a .map) (a .config .n) (l .total) (l .held) (l .gave) = rw e at (l .inv .1) in
     toZ-ofZ (sub-result c)
     ∙ gap-is _ _ (held-small c) (less-small c)
-    ∙ margin-at (a .config) (a .received .now) (a .given .now) (a .map) _ _ _ (total-is (c .before .before)) (all .held-is) (all .gave-is)
+    ∙ margin-at (a .config) (a .received .now) (a .given .now) (a .map) _ _ _ (all .total-is) (all .held-is) (all .gave-is)
 
 pub margin-of-spec : {M : Type 1} → statement M
 margin-of-spec =
@@ -156,12 +144,9 @@ margin-of-spec =
     (tie.spec
     Inv-loop
     μ-loop
-    total-requires
-    enum-known-total
-    enum-told
-    returns
     loop-holds
     start-at-requires
+    add-total
     bit-requires
     add-held
     mul-held
@@ -179,4 +164,4 @@ margin-of-spec =
     cast-result
     cast-result-2
     sub-result
-    returns-2)
+    returns)

@@ -5,7 +5,7 @@ use mathlib.Core.Path.{_∙_}
 use borrow.Author.Needs.{needs}
 use lib.ListN.{getD}
 use mir.Facts.{toZ-ofZ}
-use Rattle.config.proofs.Clusters.{server-small, start-small}
+use Rattle.config.proofs.Clusters.{server-small}
 use Rattle.ledger.proofs.Answers.{gap-is, gap-fits}
 use Rattle.ledger.proofs.Weights.{weight-at}
 use Rattle.reader.proofs.sums.weight_of.Statement.{statement}
@@ -28,7 +28,7 @@ shared-slice-read-held c = omega (arith, server-small _ _ (entry (c .before) .pr
 held-small : (c : tie.After-start-at) → c .start-at .result + getD (entry c .args .received .now) (entry c .args .server) 0 < 2 ^ 62
 held-small c =
     let s = entry c in
-    omega (arith, c .start-at .ensures, start-small (s .args .config) (s .args .server), s .pre .1 .small (s .args .server))
+    omega (arith, c .start-at .ensures .1, s .pre .1 .small (s .args .server))
 
 given-small : (c : tie.After-start-at) → getD (entry c .args .given .now) (entry c .args .server) 0 < 2 ^ 62
 given-small c = omega (arith, entry c .pre .2 .small (entry c .args .server))
@@ -57,7 +57,7 @@ returns c =
     let a = entry x .args in
     toZ-ofZ (sub-result c)
     ∙ gap-is _ _ (held-small x) (given-small x)
-    ∙ weight-at (a .config) (a .received .now) (a .given .now) (a .server) _ (x .start-at .ensures)
+    ∙ weight-at (a .config) (a .received .now) (a .given .now) (a .server) _ (x .start-at .ensures .0)
 
 pub weight-of-spec : {M : Type 1} → statement M
 weight-of-spec =

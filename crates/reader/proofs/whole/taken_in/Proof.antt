@@ -107,7 +107,7 @@ finish-requires c κs =
     let sheet = at-sheet (c .before .before) in
     let p = so-far sheet in
     let sums = sheet .take-sheet .ensures in
-    (start (at-register sheet) .pre .0, received-small _ _ (received-is p (sums .3)), given-small _ _ (given-is p (sums .4)))
+    (start (at-register sheet) .pre .0, start (at-register sheet) .pre .1, received-small _ _ (received-is p (sums .3)), given-small _ _ (given-is p (sums .4)))
 
 refusal-requires : tie.Need-refusal-requires
 refusal-requires c κs = found-refusal _ _ _ (found (c .before .before)) (c .if1 .taken)
@@ -133,20 +133,20 @@ returns c =
       cells-are p (taken .2),
     )
 
-cast-t30 : tie.Need-cast-t30
-cast-t30 c = omega (arith, at-head (at-register (at-sheet (at-note (passed (c .before))))) .read-head .ensures .2)
-
 cast-t31 : tie.Need-cast-t31
-cast-t31 c = omega (arith, at-head (at-register (at-sheet (at-note (passed (c .before .before))))) .read-head .ensures .3)
+cast-t31 c = omega (arith, at-head (at-register (at-sheet (at-note (passed (c .before))))) .read-head .ensures .2)
 
 cast-t32 : tie.Need-cast-t32
-cast-t32 c = omega (arith, at-head (at-register (at-sheet (at-note (passed (c .before .before .before))))) .read-head .ensures .4)
+cast-t32 c = omega (arith, at-head (at-register (at-sheet (at-note (passed (c .before .before))))) .read-head .ensures .3)
 
 cast-t33 : tie.Need-cast-t33
-cast-t33 c = omega (arith, at-head (at-register (at-sheet (at-note (passed (c .before .before .before .before))))) .read-head .ensures .5)
+cast-t33 c = omega (arith, at-head (at-register (at-sheet (at-note (passed (c .before .before .before))))) .read-head .ensures .4)
 
 cast-t34 : tie.Need-cast-t34
-cast-t34 c = search needs
+cast-t34 c = omega (arith, at-head (at-register (at-sheet (at-note (passed (c .before .before .before .before))))) .read-head .ensures .5)
+
+cast-t35 : tie.Need-cast-t35
+cast-t35 c = search needs
 
 kept-requires : tie.Need-kept-requires
 kept-requires c κs =
@@ -196,11 +196,11 @@ taken-in-spec =
     same-length
     same-length-2
     returns
-    cast-t30
     cast-t31
     cast-t32
     cast-t33
     cast-t34
+    cast-t35
     kept-requires
     same-length-3
     same-length-4

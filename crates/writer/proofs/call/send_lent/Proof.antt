@@ -1,32 +1,30 @@
--- `send_lent` meets its contract: the verdict is on the envelope and the replica, and so is what is sent.
-use mathlib.Core.Path.{_≡_, sym, _∙_}
+-- `send_lent` meets its contract: what is sent is what the reader takes.
+use mathlib.Core.Path.{_≡_, refl, sym, _∙_}
+use mathlib.Core.Bool.{cond, true, false}
 use borrow.Author.Needs.{needs}
-use borrow.Author.Tests.{eqb-false}
+use borrow.Author.Tests.{not-true, not-false}
+use Rattle.quorums.proofs.Tests.{both}
 use Rattle.replica.specs.Parts.{replicaOf}
-use Rattle.message.specs.Faults.{faultOf}
-use Rattle.message.proofs.Numbers.{accepted-check, refused-check}
-use Rattle.message.proofs.Found.{fault-sends, fault-sends-none}
-use Rattle.writer.proofs.Writes.{in-parts}
+use Rattle.replica.specs.Replicas.{fits}
+use Rattle.message.specs.Faults.{lawful, faultOf, sendOf}
+use Rattle.message.proofs.Found.{no-fault, fault-sends}
 use Rattle.writer.proofs.call.send_lent.Statement.{statement}
 use Rattle.writer.proofs.call.send_lent.Tie as tie
 
-none : (c : tie.After-enum-told2) →
-    let a = c .before .before .before .before .args in
+none : (c : tie.Else1) →
+    let a = c .before .before .before .args in
     faultOf (a .config) (a .envelope) (replicaOf (a .counts .now) (a .cells .now) (a .register)) ≡ 0
-none c = accepted-check _ (sym (c .before .before .fault .ensures) ∙ c .enum-told2 .given .1)
+none c =
+    let a = c .before .before .before .args in
+    let t = both (lawful (a .config) (a .envelope)) _ (sym (c .before .sends .ensures) ∙ not-false _ (c .if1 .left)) in
+    no-fault _ _ _ (t .0) (t .1)
 
-fault-requires : tie.Need-fault-requires
-fault-requires c κs = search needs
-
-enum-told : tie.Need-enum-told
-enum-told c = search needs
+sends-requires : tie.Need-sends-requires
+sends-requires c κs = search needs
 
 returns : tie.Need-returns
-returns c =
-    in-parts (fault-sends-none _ _ _ (eqb-false _ 0 (refused-check _ _ (sym (c .before .before .fault .ensures) ∙ c .enum-told .given .1))) _ _)
-
-enum-told-2 : tie.Need-enum-told-2
-enum-told-2 c = search needs
+unfolding sendOf
+returns c = rw (sym (c .before .sends .ensures) ∙ not-true _ (c .if1 .taken)) (refl, refl)
 
 put-message-requires : tie.Need-put-message-requires
 put-message-requires c κs = (search needs, search needs, none (c .before .before .before))
@@ -41,12 +39,4 @@ returns-2 c =
 
 pub send-lent-spec : {M : Type 1} → statement M
 send-lent-spec =
-    tie.close
-    (tie.spec
-    fault-requires
-    enum-told
-    returns
-    enum-told-2
-    put-message-requires
-    same-length
-    returns-2)
+    tie.close (tie.spec sends-requires returns put-message-requires same-length returns-2)
