@@ -4,7 +4,7 @@ use mathlib.Core.Path.{_≡_}
 use mathlib.Core.Bool.{true}
 use mathlib.Core.List.{List, [], _++_}
 use mathlib.Core.Option.{Option, none, some}
-use Rattle.config.specs.Cluster.{validOf}
+use Rattle.config.specs.Cluster.{House, configOf, lawfulOf}
 use Rattle.config.specs.declared.cluster.Config.{Config}
 use Rattle.machine.specs.Runs.{wrote, opened, nth, when, nothing, at}
 use Rattle.machine.specs.Steps.{machine, Step, runOf}
@@ -18,12 +18,12 @@ use Rattle.machine.proofs.ServersKept.{crashes-kept, shares-kept, takes
 use Rattle.machine.proofs.GiftsKept.{gives-kept}
 
 -- the transfers made by the first k steps, latest first
-unfoldable pub historyAt : Config → List Step → ℕ → History
-historyAt c steps zero = []
-historyAt c steps (suc k) = when (nth steps k) [] (giftOf c (at (runOf machine c steps) k)) ++ historyAt c steps k
+unfoldable pub historyAt : House → List Step → ℕ → History
+historyAt house steps zero = []
+historyAt house steps (suc k) = when (nth steps k) [] (giftOf (configOf house) (at (runOf machine house steps) k)) ++ historyAt house steps k
 
-pub fresh-invariant : (c : Config) (steps : List Step) → Invariant c [] (opened (runOf machine c steps))
-fresh-invariant c steps =
+pub fresh-invariant : (house : House) (steps : List Step) → Invariant (configOf house) [] (opened (runOf machine house steps))
+fresh-invariant house steps =
     record {
       lawful = record { each = λ g m. absurd m; ordered = tt };
       own = λ g m. absurd m;
@@ -35,15 +35,15 @@ fresh-invariant c steps =
       spreading = λ d. tt;
     }
 
-pub step-keeps : (c : Config) → validOf c ≡ true → (h : History) (s : PlainState) → Invariant c h s → (st : Step)
+pub step-keeps : (c : Config) → lawfulOf c ≡ true → (h : History) (s : PlainState) → Invariant c h s → (st : Step)
     → Invariant c (giftOf c s st ++ h) (stepped c s st .state)
-step-keeps c valid h s inv st =
+step-keeps c lawful h s inv st =
     moved c s (λ g z. Invariant c (g ++ h) (z .state)) st
     (record {
       still = λ a e. inv;
       tells = λ d y e at f. inv;
       crashes = λ i e l. crashes-kept inv i;
-      gives = λ i j e q up g. gives-kept c valid inv i j e (up .below) g;
+      gives = λ i j e q up g. gives-kept c lawful inv i j e (up .below) g;
       shares = λ i place size a e up. shares-kept inv i (wrote a);
       takes = λ i k place size m a e up f g. takes-kept inv i m (nth-in (s .sent) k m f) (wrote a);
       replies = λ i k place size m a e up f g z. replies-kept inv i m (nth-in (s .sent) k m f) (wrote a) g;
@@ -56,13 +56,14 @@ step-keeps c valid h s inv st =
       ends = λ d k m o g x i q f. ends-kept inv d o m (nth-in (s .sent) k m (x .sent)) (x .hearing) g;
     })
 
-place-keeps : (c : Config) → validOf c ≡ true → (h : History) (s : PlainState) → Invariant c h s → (o : Option Step)
+place-keeps : (c : Config) → lawfulOf c ≡ true → (h : History) (s : PlainState) → Invariant c h s → (o : Option Step)
     → Invariant c (when o [] (giftOf c s) ++ h) (when o (nothing s) (stepped c s) .state)
-place-keeps c valid h s inv none = inv
-place-keeps c valid h s inv (some st) = step-keeps c valid h s inv st
+place-keeps c lawful h s inv none = inv
+place-keeps c lawful h s inv (some st) = step-keeps c lawful h s inv st
 
-pub invariant : (c : Config) → validOf c ≡ true → (steps : List Step) (k : ℕ) → Invariant c (historyAt c steps k) (at (runOf machine c steps) k)
+pub invariant : (house : House) → lawfulOf (configOf house) ≡ true → (steps : List Step) (k : ℕ)
+    → Invariant (configOf house) (historyAt house steps k) (at (runOf machine house steps) k)
 unfolding historyAt at
-invariant c valid steps zero = fresh-invariant c steps
-invariant c valid steps (suc k) =
-    place-keeps c valid (historyAt c steps k) (at (runOf machine c steps) k) (invariant c valid steps k) (nth steps k)
+invariant house lawful steps zero = fresh-invariant house steps
+invariant house lawful steps (suc k) =
+    place-keeps (configOf house) lawful (historyAt house steps k) (at (runOf machine house steps) k) (invariant house lawful steps k) (nth steps k)

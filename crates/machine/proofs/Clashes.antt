@@ -8,7 +8,7 @@ use mathlib.Core.Logic.{_↔_}
 use mathlib.Core.Bool.{true}
 use mathlib.Core.List.{List}
 use mathlib.Core.Option.{some}
-use Rattle.config.specs.Cluster.{validOf, startOf}
+use Rattle.config.specs.Cluster.{House, configOf, lawfulOf, startOf}
 use Rattle.config.specs.declared.cluster.Config.{Config}
 use Rattle.machine.specs.Sets.{Transfers, includes, union, count}
 use Rattle.machine.specs.Parties.{Replica, reply, Message}
@@ -36,21 +36,24 @@ pub record Joins (c : Config) (x y : Replica) : Type 0 where
   pub range : SetRange c (union (x .set) (y .set))
   pub sound : Sound c (union (x .set) (y .set))
 
-module _ (c : Config) (valid : validOf c ≡ true) (steps : List Step) where
+module _ (house : House) (lawful : lawfulOf (configOf house) ≡ true) (steps : List Step) where
+  abbrev c : Config
+  c = configOf house
+
   abbrev r : PlainRun
-  r = runOf machine c steps
+  r = runOf machine house steps
 
   -- ---- sets held or sent at whatever places k and l of the run
 
   module _ (k l : ℕ) (a b : Transfers) (f : Found r k a) (g : Found r l b) where
-    law : Lawfully (c .n) (c .f) (startOf c) (historyAt c steps (k + l))
-    law = invariant c valid steps (k + l) .lawful
+    law : Lawfully (c .n) (c .f) (startOf c) (historyAt house steps (k + l))
+    law = invariant house lawful steps (k + l) .lawful
 
-    left : Closed (historyAt c steps (k + l)) a
-    left = found-later c valid steps k (k + l) a (omega arith) f
+    left : Closed (historyAt house steps (k + l)) a
+    left = found-later house lawful steps k (k + l) a (omega arith) f
 
-    right : Closed (historyAt c steps (k + l)) b
-    right = found-later c valid steps l (k + l) b (omega arith) g
+    right : Closed (historyAt house steps (k + l)) b
+    right = found-later house lawful steps l (k + l) b (omega arith) g
 
     -- rows never clash
     pub found-agree : (i : ℕ) → Agree a b i
@@ -62,7 +65,7 @@ module _ (c : Config) (valid : validOf c ≡ true) (steps : List Step) where
 
     -- a join is never light
     pub found-sound : Sound c (union a b)
-    found-sound = sound c valid (historyAt c steps (k + l)) (union a b) law (union-closed c valid steps k l a b f g)
+    found-sound = sound c lawful (historyAt house steps (k + l)) (union a b) law (union-closed house lawful steps k l a b f g)
 
   -- ---- a party's replica and a message sent
 
@@ -71,8 +74,8 @@ module _ (c : Config) (valid : validOf c ≡ true) (steps : List Step) where
     server-joins i =
         record {
           rows = found-agree k k _ _ (by-server i refl) (by-message p m sent refl);
-          registers = same-tag-same-register c steps k k _ _ (held-by-server i refl) (sent-by m (nth-in (at r k .sent) p m sent) refl);
-          range = union-range c valid steps k k _ _ (by-server i refl) (by-message p m sent refl);
+          registers = same-tag-same-register house steps k k _ _ (held-by-server i refl) (sent-by m (nth-in (at r k .sent) p m sent) refl);
+          range = union-range house lawful steps k k _ _ (by-server i refl) (by-message p m sent refl);
           sound = found-sound k k _ _ (by-server i refl) (by-message p m sent refl);
         }
 
@@ -80,8 +83,8 @@ module _ (c : Config) (valid : validOf c ≡ true) (steps : List Step) where
     desk-joins d =
         record {
           rows = found-agree k k _ _ (by-desk d refl) (by-message p m sent refl);
-          registers = same-tag-same-register c steps k k _ _ (held-by-desk d refl) (sent-by m (nth-in (at r k .sent) p m sent) refl);
-          range = union-range c valid steps k k _ _ (by-desk d refl) (by-message p m sent refl);
+          registers = same-tag-same-register house steps k k _ _ (held-by-desk d refl) (sent-by m (nth-in (at r k .sent) p m sent) refl);
+          range = union-range house lawful steps k k _ _ (by-desk d refl) (by-message p m sent refl);
           sound = found-sound k k _ _ (by-desk d refl) (by-message p m sent refl);
         }
 
@@ -89,20 +92,20 @@ module _ (c : Config) (valid : validOf c ≡ true) (steps : List Step) where
 
   -- every transfer of server i, wherever it is held or was sent, is in i's own set, then and later
   pub own-row : (k l : ℕ) (a : Transfers) → k ≤ l → Found r k a → (i : ℕ) → AllOf i a (at r l .servers i .set)
-  own-row k l a e f i = own-whole (invariant c valid steps l) (found-later c valid steps k l a e f) i
+  own-row k l a e f i = own-whole (invariant house lawful steps l) (found-later house lawful steps k l a e f) i
 
   -- so no row of the server's own is above its own count
   pub own-count : (k l : ℕ) (a : Transfers) → k ≤ l → Found r k a → (i : ℕ) → count a i ≤ count (at r l .servers i .set) i
-  own-count k l a e f i = part-count a (at r l .servers i .set) (found-closed c valid steps k a f .once) i (own-row k l a e f i)
+  own-count k l a e f i = part-count a (at r l .servers i .set) (found-closed house lawful steps k a f .once) i (own-row k l a e f i)
 
   -- ---- a reply of the current round
 
   module _ (d k : ℕ) (m : Message) (sent : In m (at r k .sent)) (kind : m .kind ≡ reply) (desk : m .desk ≡ d)
       (round : m .round ≡ deskAt r d k .round) where
     pub reply-has : _⊇_ (m .replica .set) (deskAt r d k .replica .set)
-    reply-has = current-has c valid steps d k m sent (λ e. kinds-apart (sym kind ∙ e) (λ f. omega arith)) desk round
+    reply-has = current-has house lawful steps d k m sent (λ e. kinds-apart (sym kind ∙ e) (λ f. omega arith)) desk round
 
     -- so no count of the reply is below the desk's
     pub reply-count : (i : ℕ) → count (deskAt r d k .replica .set) i ≤ count (m .replica .set) i
     reply-count i =
-        part-count (deskAt r d k .replica .set) (m .replica .set) (invariant c valid steps k .desks d .closed .once) i (λ t e s. reply-has t e)
+        part-count (deskAt r d k .replica .set) (m .replica .set) (invariant house lawful steps k .desks d .closed .once) i (λ t e s. reply-has t e)

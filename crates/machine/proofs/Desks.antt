@@ -7,10 +7,11 @@ use mathlib.Core.Option.{Option, none, some}
 use borrow.Author.Tests.{eqb-true, eqb-false, eq-eqb, ne-eqb}
 use lib.Dec.{eqb}
 use lib.ListN.{length}
+use Rattle.config.specs.Cluster.{House, configOf}
 use Rattle.config.specs.declared.cluster.Config.{Config}
 use Rattle.machine.specs.Sets.{Transfers, quorumOf}
 use Rattle.machine.specs.Parties.{Register, join, Message, Task, valueOf, first, second, Operation, running, Desk, answered}
-use Rattle.machine.specs.Runs.{Answer, done, wrote, told, put, nth, when, nothing, at, answerAt, deskAt}
+use Rattle.machine.specs.Runs.{config, Answer, done, wrote, told, put, nth, when, nothing, at, answerAt, deskAt}
 use Rattle.machine.specs.Calls.{mostRound, mostValue, begun, restarted, no-stamp, moved-on, finished, marked, dropped, knows}
 use Rattle.machine.specs.Steps.{machine, Step, begin, hear, askedOf, PlainRun, runOf}
 use Rattle.machine.specs.Seen.{accepted, heardIn, hears, viewOf}
@@ -33,17 +34,17 @@ pub record DeskMoves (r : PlainRun) (d k : ℕ) (x : Desk) (P : Transfers → De
       → x .round < mostRound
       → P (m .replica .set) (restarted x o m)
   pub marks : (p : ℕ) (m : Message) (o : Operation) → Heard (at r k) (hear d p) d p m o → knows x m ≡ true
-      → quorumOf (r .config) (join (x .replica) (m .replica) .set) (answered (m ∷ o .heard)) ≡ false
+      → quorumOf (config r) (join (x .replica) (m .replica) .set) (answered (m ∷ o .heard)) ≡ false
       → P (m .replica .set) (marked x o (join (x .replica) (m .replica)) m)
   pub chooses : (p : ℕ) (m : Message) (o : Operation) → Heard (at r k) (hear d p) d p m o → knows x m ≡ true
-      → quorumOf (r .config) (join (x .replica) (m .replica) .set) (answered (m ∷ o .heard)) ≡ true
+      → quorumOf (config r) (join (x .replica) (m .replica) .set) (answered (m ∷ o .heard)) ≡ true
       → o .phase ≡ first
       → x .round < mostRound
-      → no-stamp (r .config) (o .task) (join (x .replica) (m .replica) .register) ≡ false
+      → no-stamp (config r) (o .task) (join (x .replica) (m .replica) .register) ≡ false
       → P (m .replica .set) (moved-on d x o (join (x .replica) (m .replica)))
   pub ends : (p : ℕ) (m : Message) (o : Operation) (g : Register) → nth (r .steps) k ≡ some (hear d p) → Heard (at r k) (hear d p) d p m o
       → knows x m ≡ true
-      → quorumOf (r .config) (join (x .replica) (m .replica) .set) (answered (m ∷ o .heard)) ≡ true
+      → quorumOf (config r) (join (x .replica) (m .replica) .set) (answered (m ∷ o .heard)) ≡ true
       → o .phase ≡ second g
       → P (m .replica .set) (finished x o (join (x .replica) (m .replica)) g)
 
@@ -51,9 +52,12 @@ pub record DeskMoves (r : PlainRun) (d k : ℕ) (x : Desk) (P : Transfers → De
 abbrev pub brings : PlainRun → ℕ → ℕ → Transfers
 brings r d k = when (hears r d k) [] (λ m. m .replica .set)
 
-module _ (c : Config) (steps : List Step) (d k : ℕ) (P : Transfers → Desk → Type 0) where
+module _ (house : House) (steps : List Step) (d k : ℕ) (P : Transfers → Desk → Type 0) where
+  abbrev c : Config
+  c = configOf house
+
   abbrev r : PlainRun
-  r = runOf machine c steps
+  r = runOf machine house steps
 
   abbrev s : PlainState
   s = at r k

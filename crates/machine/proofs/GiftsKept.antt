@@ -7,18 +7,17 @@ use mathlib.Core.Path.{_≡_, refl, sym, ap, ap₂, subst}
 use mathlib.Core.Logic.{inl, inr, ⊎-elim}
 use mathlib.Core.Bool.{true, false}
 use mathlib.Core.List.{[], _∷_}
-use borrow.Author.Tests.{lt-ltb, ltb-true, eq-eqb, ne-eqb}
+use borrow.Author.Tests.{ltb-true, eq-eqb, ne-eqb}
 use lib.Dec.{ltb}
 use lib.IntN.{pos, _-ℤ_}
-use Rattle.quorums.specs.Sum.{sum}
 use Rattle.quorums.specs.Accounts.{weight}
 use Rattle.quorums.specs.Difference.{difference}
 use Rattle.quorums.proofs.Tests.{test-false, le-or-lt}
 use Rattle.quorums.proofs.Differences.{difference-less, pos-difference}
 use Rattle.quorums.proofs.Weights.{above-is}
-use Rattle.config.specs.Cluster.{validOf, startOf, totalOf, aboveOf}
+use Rattle.config.specs.Cluster.{lawfulOf, startOf, totalOf, aboveOf}
 use Rattle.config.specs.declared.cluster.Config.{Config}
-use Rattle.config.proofs.Clusters.{valid-bounds, total-is}
+use Rattle.config.proofs.Clusters.{start-above}
 use Rattle.machine.specs.Sets.{Transfer, Transfers, has, tally, count, given, received, weightOf, accountsFrom}
 use Rattle.machine.specs.Parties.{Replica}
 use Rattle.machine.specs.Runs.{done, afterServer, put}
@@ -35,13 +34,10 @@ use Rattle.machine.proofs.Desks.{put-cases}
 use Rattle.machine.proofs.Invariant.{Invariant}
 use Rattle.machine.proofs.ServersKept.{server-kept}
 
--- the start weights are above the floor, because 2f < n
-pub started : (c : Config) → validOf c ≡ true → Started (c .n) (c .f) (startOf c)
-unfolding startOf totalOf
-started c v i l =
-    let b = valid-bounds c v in
-    let more : 0 * (2 * (c .n - c .f)) + sum (c .n) (startOf c) < 1000 * (2 * (c .n - c .f)) = omega (arith, total-is c, b .crash, b .some) in
-    rw (pos-difference 1000, above-is) (lt-ltb _ _ more)
+-- every start weight of a lawful cluster is above the floor
+pub started : (c : Config) → lawfulOf c ≡ true → Started (c .n) (c .f) (startOf c)
+unfolding aboveOf totalOf
+started c v i l = rw pos-difference (start-above c i v l)
 
 -- ---- one transfer more
 
@@ -65,7 +61,7 @@ module _ (a : Transfers) (i j e : ℕ) (other : j ≡ i → ⊥) (k : ℕ) where
   unfolding weight
   weight-next w = rw (difference-less) (ap₂ difference (ap (λ x. w i + x) received-next) given-next)
 
-module _ (c : Config) (valid : validOf c ≡ true) {h : History} {s : PlainState} (inv : Invariant c h s) (i j e : ℕ) (below : i < c .n)
+module _ (c : Config) (lawful : lawfulOf c ≡ true) {h : History} {s : PlainState} (inv : Invariant c h s) (i j e : ℕ) (below : i < c .n)
     (giving : Giving c i (s .servers i) j e) where
   abbrev r : Replica
   r = s .servers i
@@ -100,15 +96,15 @@ module _ (c : Config) (valid : validOf c ≡ true) {h : History} {s : PlainState
       let test : ltb (x * m + totalOf c) (y * m) ≡ true = rw (difference-less, above-is) at left in
       ⊎-elim (λ (l : y ≤ x). absurd (omega (arith, ltb-true (x * m + totalOf c) (y * m) test, mul-le-mul-right m l))) (λ (l : x < y). l) (le-or-lt y x)
 
-  lawful : Lawful (c .n) (c .f) (startOf c) gift
+  gift-lawful : Lawful (c .n) (c .f) (startOf c) gift
   unfolding aboveOf totalOf weightOf
-  lawful =
+  gift-lawful =
       record {
         giver = below;
         taker = giving .taker;
         other = giving .other;
         amount = giving .amount;
-        most = omega (arith, spared, closed-most (inv .lawful) (started c valid) (inv .servers i .closed) i below);
+        most = omega (arith, spared, closed-most (inv .lawful) (started c lawful) (inv .servers i .closed) i below);
         number = giving .room;
         itself = has-first (gift .transfer) (r .set);
         numbered = count-next (r .set) i j e (giving .other) _;
@@ -143,7 +139,7 @@ module _ (c : Config) (valid : validOf c ≡ true) {h : History} {s : PlainState
       (tag-refl (r .register))
       []
       (record {
-        each = λ x m. ⊎-elim (λ (q : x ≡ gift). subst (Lawful (c .n) (c .f) (startOf c)) (sym q) lawful) (λ (q : In x h). inv .lawful .each x q) m;
+        each = λ x m. ⊎-elim (λ (q : x ≡ gift). subst (Lawful (c .n) (c .f) (startOf c)) (sym q) gift-lawful) (λ (q : In x h). inv .lawful .each x q) m;
         ordered = (λ x m f. (lower x m f, has-rest (gift .transfer) (x .transfer) (r .set) (held x m f)), inv .lawful .ordered);
       })
       good

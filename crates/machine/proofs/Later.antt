@@ -9,7 +9,7 @@ use mathlib.Core.List.{List, [], _∷_}
 use borrow.Author.Tests.{eqb-true}
 use lib.Dec.{eqb}
 use Rattle.quorums.proofs.Meeting.{Shared}
-use Rattle.config.specs.Cluster.{validOf}
+use Rattle.config.specs.Cluster.{lawfulOf}
 use Rattle.config.specs.declared.cluster.Config.{Config}
 use Rattle.machine.specs.Sets.{Transfer, Transfers, has, quorumOf}
 use Rattle.machine.specs.Parties.{Register, Replica, join, Message, Operation, answered}
@@ -41,7 +41,7 @@ answered-replied (m ∷ l) i e = by-test (eqb (m .server) i) refl e (answered-re
     by-test true f g rest = record { message = m; heard = inl refl; server = eqb-true (m .server) i f }
     by-test false f g rest = let y = rest g in record { message = y .message; heard = inr (y .heard); server = y .server }
 
-module _ (c : Config) (valid : validOf c ≡ true) {h : History} {s : PlainState} (inv : Invariant c h s) (a : Register) (S : Transfers) (q : ℕ → Bool)
+module _ (c : Config) (lawful : lawfulOf c ≡ true) {h : History} {s : PlainState} (inv : Invariant c h s) (a : Register) (S : Transfers) (q : ℕ → Bool)
     (rounds : ℕ → ℕ) (f : Following a S q rounds h s) (quorum : quorumOf c S q ≡ true) where
   -- a transfer of p's set that a server of q made after A, or none
   module _ (p : Replica) (good : Good h p) (l : List Message) (seen : (m : Message) → In m l → Seen a S q rounds (m .server) p)
@@ -57,7 +57,7 @@ module _ (c : Config) (valid : validOf c ≡ true) {h : History} {s : PlainState
     unfolding quorumOf
     shared-server none =
         let both-have : Shared (c .n) q (answered l) =
-        quorums-share (inv .lawful) (started c valid) (f .closed) (good .closed) q (answered l) none
+        quorums-share (inv .lawful) (started c lawful) (f .closed) (good .closed) q (answered l) none
         (λ t e g.
         let y = answered-replied l (t .giver) g in
         seen (y .message) (y .heard) .transfers t e (sym (y .server)))

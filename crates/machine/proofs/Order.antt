@@ -7,7 +7,7 @@ use mathlib.Core.Path.{_≡_, refl, sym, ap, _∙_, subst}
 use mathlib.Core.Bool.{Bool, true, false≢true}
 use mathlib.Core.List.{List, [], _∷_, _++_}
 use mathlib.Core.Option.{Option, none, some}
-use Rattle.config.specs.Cluster.{validOf}
+use Rattle.config.specs.Cluster.{House, configOf, lawfulOf}
 use Rattle.config.specs.declared.cluster.Config.{Config}
 use Rattle.machine.specs.Sets.{Transfers}
 use Rattle.machine.specs.Parties.{Register, below, Replica, join, Task, read, write, writes, Phase, first, second, Operation, Result, Activity, idle, running, ended, answered}
@@ -37,15 +37,18 @@ writes-above : (d : ℕ) (t : Task) (r : Register) → writes t ≡ true → bel
 writes-above d read r e = absurd (false≢true e)
 writes-above d (write v) r e = write-above d v r
 
-module _ (c : Config) (valid : validOf c ≡ true) (steps : List Step) where
+module _ (house : House) (lawful : lawfulOf (configOf house) ≡ true) (steps : List Step) where
+  abbrev c : Config
+  c = configOf house
+
   abbrev r : PlainRun
-  r = runOf machine c steps
+  r = runOf machine house steps
 
   -- ---- rounds rise
 
   round-next : (d k : ℕ) → deskAt r d k .round ≤ deskAt r d (suc k) .round
   round-next d k =
-      desk-moved c steps d k (λ b y. deskAt r d k .round ≤ y .round)
+      desk-moved house steps d k (λ b y. deskAt r d k .round ≤ y .round)
       (record {
         still = omega arith;
         begins = λ t note b l rests room. omega arith;
@@ -63,7 +66,7 @@ module _ (c : Config) (valid : validOf c ≡ true) (steps : List Step) where
 
   module _ (a : Register) (S : Transfers) (q : ℕ → Bool) (rounds : ℕ → ℕ) where
     abbrev FollowingAt : ℕ → Type 0
-    FollowingAt p = Following a S q rounds (historyAt c steps p) (at r p)
+    FollowingAt p = Following a S q rounds (historyAt house steps p) (at r p)
 
     place-follows : (h : History) (s : PlainState) → Invariant c h s → Following a S q rounds h s → (o : Option Step)
         → Following a S q rounds (when o [] (giftOf c s) ++ h) (when o (nothing s) (stepped c s) .state)
@@ -72,7 +75,7 @@ module _ (c : Config) (valid : validOf c ≡ true) (steps : List Step) where
 
     following-next : (p : ℕ) → FollowingAt p → FollowingAt (suc p)
     unfolding historyAt at
-    following-next p f = place-follows (historyAt c steps p) (at r p) (invariant c valid steps p) f (nth steps p)
+    following-next p f = place-follows (historyAt house steps p) (at r p) (invariant house lawful steps p) f (nth steps p)
 
     following-from : (k p : ℕ) → k ≤ p → FollowingAt k → FollowingAt p
     following-from k p l f = from-on FollowingAt k f (λ z m g. following-next z g) p l
@@ -90,27 +93,27 @@ module _ (c : Config) (valid : validOf c ≡ true) (steps : List Step) where
     abbrev roundsThen : ℕ → ℕ
     roundsThen y = deskAt r y k .round
 
-    evidence : Following (x .register) (held .set) quorumOfA roundsThen (historyAt c steps k) (at r k)
+    evidence : Following (x .register) (held .set) quorumOfA roundsThen (historyAt house steps k) (at r k)
     evidence =
         record {
           closed = good-join _ _ _ (inv .desks d) (inv .messages (e .message) (e .sent)) .closed;
           evidence = λ i a.
               let y = answered-replied (e .message ∷ e .operation .heard) i a in
-              subst (λ z. Since (historyAt c steps k) (at r k .servers) z (held .set) (x .register)) (y .server)
+              subst (λ z. Since (historyAt house steps k) (at r k .servers) z (held .set) (x .register)) (y .server)
               (answered-since inv d (e .operation) (e .message) (e .sent) (e .hearing) (x .register) spreading (y .message) (y .heard));
           replies = λ m i a l. absurd (omega (arith, l, inv .rounds m i));
           desks = λ y l. absurd (omega (arith, l));
         }
       where
-        inv : Invariant c (historyAt c steps k) (at r k)
-        inv = invariant c valid steps k
+        inv : Invariant c (historyAt house steps k) (at r k)
+        inv = invariant house lawful steps k
 
-        spreading : Spreading (historyAt c steps k) (at r k .servers) (at r k .sent) d (deskAt r d k) (x .register) (e .operation .heard)
+        spreading : Spreading (historyAt house steps k) (at r k .servers) (at r k .sent) d (deskAt r d k) (x .register) (e .operation .heard)
         spreading =
             of-second _ (e .operation .phase) (x .register) (e .operation .heard) (e .phase-two)
-            (of-running (Spreading (historyAt c steps k) (at r k .servers) (at r k .sent) d (deskAt r d k)) (deskAt r d k .activity) (e .operation)
+            (of-running (Spreading (historyAt house steps k) (at r k .servers) (at r k .sent) d (deskAt r d k)) (deskAt r d k .activity) (e .operation)
             (e .hearing .runs)
-            (invariant c valid steps k .spreading d))
+            (invariant house lawful steps k .spreading d))
 
   -- ---- the operation B, begun after that
 
@@ -133,7 +136,7 @@ module _ (c : Config) (valid : validOf c ≡ true) (steps : List Step) where
 
     later-next : (q : ℕ) → k ≤ q → NoBegin (viewOf r) e q → Later q → Later (suc q)
     later-next q l none-here (raised, stage) =
-        desk-moved c steps e q (λ b y. (deskAt r e k .round < y .round) × Stage x u (y .activity))
+        desk-moved house steps e q (λ b y. (deskAt r e k .round < y .round) × Stage x u (y .activity))
         (record {
           still = (raised, stage);
           begins = λ v note b s rests room. absurd (none-here v b);
@@ -143,7 +146,7 @@ module _ (c : Config) (valid : validOf c ≡ true) (steps : List Step) where
           chooses = λ p m o h i on f room w.
               let s = running-stage o (h .hearing .runs) in
               let no-lower : x .register ≼ join (deskAt r e q .replica) (m .replica) .register =
-              later-choice c valid (invariant c valid steps q) (x .register) (held d k t x a .set) (quorumOfA d k t x a) (roundsThen d k t x a)
+              later-choice c lawful (invariant house lawful steps q) (x .register) (held d k t x a .set) (quorumOfA d k t x a) (roundsThen d k t x a)
               (following-from (x .register) (held d k t x a .set) (quorumOfA d k t x a) (roundsThen d k t x a) k q l (evidence d k t x a))
               (a .quorum)
               e
@@ -171,7 +174,7 @@ module _ (c : Config) (valid : validOf c ≡ true) (steps : List Step) where
     -- right after its begin B has chosen nothing, and its round is above all that was sent before
     later-begun : (j : ℕ) → k ≤ j → Begins (viewOf r) e j u → Later (suc j)
     later-begun j l b =
-        let y = begins-is c steps e j u b in
+        let y = begins-is house steps e j u b in
         subst (λ z. (deskAt r e k .round < z .round) × Stage x u (z .activity)) (sym (y .after)) (omega (arith, round-rises e k j l), (refl, tt))
 
     later-chosen : (j : ℕ) (g : Register) → k < j → Chose (viewOf r) e j u g → Ordered x u g
@@ -184,7 +187,7 @@ module _ (c : Config) (valid : validOf c ≡ true) (steps : List Step) where
         subst (Chosen x u) (two .phase-two) (here .1)
 
 -- Theorem: the order of tags.
-pub order : (c : Config) → validOf c ≡ true → (steps : List Step) → Order (viewOf (runOf machine c steps))
-order c valid steps d i k t x a ends chose e j u b l later =
-    subst (λ g. (g ≼ b) × (writes u ≡ true → below g b ≡ true)) (sym (results c steps .tag d i k t x a ends chose))
-    (later-chosen c valid steps d k t x (ends-finish c steps ends) e u j b l later)
+pub order : (house : House) → lawfulOf (configOf house) ≡ true → (steps : List Step) → Order (viewOf (runOf machine house steps))
+order house lawful steps d i k t x a ends chose e j u b l later =
+    subst (λ g. (g ≼ b) × (writes u ≡ true → below g b ≡ true)) (sym (results house steps .tag d i k t x a ends chose))
+    (later-chosen house lawful steps d k t x (ends-finish house steps ends) e u j b l later)

@@ -11,6 +11,7 @@ use borrow.Author.Tests.{le-leb}
 use lib.ListN.{length}
 use Rattle.quorums.proofs.Tests.{le-or-lt}
 use Rattle.quorums.proofs.Sums.{below-suc}
+use Rattle.config.specs.Cluster.{House, configOf}
 use Rattle.config.specs.declared.cluster.Config.{Config}
 use Rattle.machine.specs.Parties.{Register, Task, valueOf, Phase, first, second, by-phase, Operation, Result, Activity, idle, running, ended, Desk}
 use Rattle.machine.specs.Runs.{Answer, unmade, late, refused, done, wrote, told, put, nth, when, nothing, mostDesk, onDesk, take, at, answerAt, deskAt}
@@ -171,9 +172,12 @@ Origin r d k idle = Unit
 Origin r d k (running o) = RunningFrom r d k (o .task)
 Origin r d k (ended x) = EndedFrom r d k x
 
-module _ (c : Config) (steps : List Step) where
+module _ (house : House) (steps : List Step) where
+  abbrev c : Config
+  c = configOf house
+
   abbrev r : PlainRun
-  r = runOf machine c steps
+  r = runOf machine house steps
 
   pub begins-is : (d k : ℕ) (t : Task) → Begins (viewOf r) d k t → Begun (deskAt r d k) t (deskAt r d (suc k))
   unfolding at answerAt
@@ -251,7 +255,7 @@ module _ (c : Config) (steps : List Step) where
 
     origin-step : Origin r d k (deskAt r d k .activity) → Origin r d (suc k) (deskAt r d (suc k) .activity)
     origin-step h =
-        desk-moved c steps d k (λ a y. y ≡ deskAt r d (suc k) → Origin r d (suc k) (y .activity))
+        desk-moved house steps d k (λ a y. y ≡ deskAt r d (suc k) → Origin r d (suc k) (y .activity))
         (record {
           still = λ e. origin-next (deskAt r d k .activity) (unmoved d k e) h;
           begins = λ t note b l rests room e. record { begun = k; current = current-new b };

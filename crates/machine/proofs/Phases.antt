@@ -6,10 +6,10 @@ use mathlib.Core.Logic.{⊎-elim}
 use mathlib.Core.Bool.{true}
 use mathlib.Core.List.{List, _∷_}
 use Rattle.quorums.proofs.Tests.{le-or-lt}
-use Rattle.config.specs.declared.cluster.Config.{Config}
+use Rattle.config.specs.Cluster.{House}
 use Rattle.machine.specs.Sets.{quorumOf}
 use Rattle.machine.specs.Parties.{Register, join, Message, Task, writes, first, second, Operation, Result, Activity, idle, running, ended, answered}
-use Rattle.machine.specs.Runs.{at, deskAt}
+use Rattle.machine.specs.Runs.{config, at, deskAt}
 use Rattle.machine.specs.Steps.{Step, runOf, PlainRun, machine}
 use Rattle.machine.specs.Seen.{viewOf}
 use Rattle.machine.specs.Views.{Current, Ends, Chose}
@@ -36,19 +36,19 @@ pub record Finish (r : PlainRun) (d k : ℕ) (t : Task) (x : Result) : Type 0 wh
   pub message : Message
   pub sent : In message (at r k .sent)
   pub hearing : Hearing d (deskAt r d k) message operation
-  pub quorum : quorumOf (r .config) (join (deskAt r d k .replica) (message .replica) .set) (answered (message ∷ operation .heard)) ≡ true
+  pub quorum : quorumOf (config r) (join (deskAt r d k .replica) (message .replica) .set) (answered (message ∷ operation .heard)) ≡ true
   pub task : operation .task ≡ t
   pub phase-two : operation .phase ≡ second (x .register)
   pub kind : x .is-write ≡ writes t
 
-module _ (c : Config) (steps : List Step) where
+module _ (house : House) (steps : List Step) where
   abbrev r : PlainRun
-  r = runOf machine c steps
+  r = runOf machine house steps
 
   -- phase 2 stays, with its register, until the operation ends or is dropped
   second-next : (d k : ℕ) (g : Register) → NoBegin (viewOf r) d k → Second g (deskAt r d k .activity) → Second g (deskAt r d (suc k) .activity)
   second-next d k g n h =
-      desk-moved c steps d k (λ a y. Second g (y .activity))
+      desk-moved house steps d k (λ a y. Second g (y .activity))
       (record {
         still = h;
         begins = λ t note b l rests room. absurd (n t b);
@@ -88,9 +88,9 @@ module _ (c : Config) (steps : List Step) where
 
   pub ends-finish : {d i k : ℕ} {t : Task} {x : Result} → Ends (viewOf r) d i t k x → Finish r d k t x
   ends-finish {d} {i} {k} {t} {x} h =
-      desk-moved c steps d k (λ a y. y .activity ≡ ended x → Finish r d k t x)
+      desk-moved house steps d k (λ a y. y .activity ≡ ended x → Finish r d k t x)
       (record {
-        still = λ e. absurd (h .before x (ended-gives c steps d k x (after .0) e));
+        still = λ e. absurd (h .before x (ended-gives house steps d k x (after .0) e));
         begins = λ u note b l rests room e. absurd (running-ended refl e);
         drops = λ o f e. absurd (idle-ended e);
         restarts = λ p m o f i room e. absurd (running-ended refl e);
@@ -101,19 +101,19 @@ module _ (c : Config) (steps : List Step) where
       (after .1)
     where
       after : Seated d × (deskAt r d (suc k) .activity ≡ ended x)
-      after = gives-ended c steps d (suc k) x (h .after)
+      after = gives-ended house steps d (suc k) x (h .after)
 
       idle-ended : idle ≡ ended x → ⊥
       idle-ended e = let z : _≡_ {A = ℕ} 0 1 = cc in omega arith
 
       finish : (o : Operation) (g : Register) (m : Message) → In m (at r k .sent) → Hearing d (deskAt r d k) m o
-          → quorumOf c (join (deskAt r d k .replica) (m .replica) .set) (answered (m ∷ o .heard)) ≡ true
+          → quorumOf (config r) (join (deskAt r d k .replica) (m .replica) .set) (answered (m ∷ o .heard)) ≡ true
           → o .phase ≡ second g
           → ended (record { is-write = writes (o .task); register = g; restarts = o .restarts }) ≡ ended x
           → Finish r d k t x
       finish o g m n a q f y =
           let same : _≡_ {A = Result} (record { is-write = writes (o .task); register = g; restarts = o .restarts }) x = cc in
-          let task : o .task ≡ t = current-unique (running-origin c steps d k o (a .runs) .current) (h .current) .1 in
+          let task : o .task ≡ t = current-unique (running-origin house steps d k o (a .runs) .current) (h .current) .1 in
           record {
             operation = o;
             message = m;

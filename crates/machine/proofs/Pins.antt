@@ -7,7 +7,7 @@ use mathlib.Core.List.{List, [], _∷_, _++_, map}
 use lib.ListN.{length}
 use Rattle.config.specs.Cluster.{level}
 use Rattle.machine.specs.Parties.{read, write, bytesOf, Result}
-use Rattle.machine.specs.Runs.{Answer, unmade, late, refused, done, wrote, told, at, answersOf}
+use Rattle.machine.specs.Runs.{config, Answer, unmade, late, refused, done, wrote, told, at, answersOf}
 use Rattle.machine.specs.Steps.{Step, begin, ask, serve, hear, result, drop, transfer, share, crash, machine, PlainRun, runOf}
 use Rattle.machine.proofs.Computing.{computing}
 use Rattle.machine.proofs.Blocks.{sale, tooLong}
@@ -170,7 +170,7 @@ runIn n f l = runOf machine (level n f) (stepsOf l)
 
 -- the bytes of all messages that it sent
 abbrev pub bytesIn : ℕ → ℕ → List Row → List (List ℕ)
-bytesIn n f l = map (bytesOf (level n f)) (at (runIn n f l) (length l) .sent)
+bytesIn n f l = map (bytesOf (config (runIn n f l))) (at (runIn n f l) (length l) .sent)
 
 pub record Pins : Type 0 where
   pub alone-answers : answersOf (runIn 1 0 alone) ≡ answersIn alone

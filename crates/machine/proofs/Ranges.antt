@@ -8,7 +8,7 @@ use mathlib.Core.Logic.{_⊎_, inl, inr, ⊎-elim}
 use mathlib.Core.Bool.{true}
 use mathlib.Core.List.{List}
 use lib.ListN.{length}
-use Rattle.config.specs.Cluster.{validOf, stampBytes, mostStamp}
+use Rattle.config.specs.Cluster.{House, configOf, lawfulOf, stampBytes, mostStamp}
 use Rattle.config.specs.declared.cluster.Config.{Config}
 use Rattle.machine.specs.Parties.{Register, start, Replica, Message, write, valueOf, second, Operation, Result, running, ended, Desk}
 use Rattle.machine.specs.Runs.{at, deskAt}
@@ -64,9 +64,12 @@ stamp-fits c g w =
     (λ (e : (1 ≤ g .stamp) × (g .stamp ≤ mostStamp c) × Seated (g .desk)). omega (arith, e .1))
     (w .tag)
 
-module _ (c : Config) (steps : List Step) (typed : Typed steps) where
+module _ (house : House) (steps : List Step) (typed : Typed steps) where
+  abbrev c : Config
+  c = configOf house
+
   abbrev r : PlainRun
-  r = runOf machine c steps
+  r = runOf machine house steps
 
   -- ---- registers
 
@@ -78,12 +81,12 @@ module _ (c : Config) (steps : List Step) (typed : Typed steps) where
   written-range g w =
       let two = chosen-runs (deskAt r (w .desk) (w .chose .place) .activity) g (w .chose .phase-two) in
       let o = two .operation in
-      let own = write-own c steps (w .desk) (w .begun) (w .bytes) g (w .chose) in
+      let own = write-own house steps (w .desk) (w .begun) (w .bytes) g (w .chose) in
       let task : o .task ≡ write (w .bytes) =
-      current-unique (running-origin c steps (w .desk) (w .chose .place) o (two .runs) .current) (w .chose .current) .1 in
+      current-unique (running-origin house steps (w .desk) (w .chose .place) o (two .runs) .current) (w .chose .current) .1 in
       let range : OperationRange c (at r (w .chose .place) .sent) (w .desk) (deskAt r (w .desk) (w .chose .place) .round) o =
       subst (ActivityRange c (at r (w .chose .place) .sent) (w .desk) (deskAt r (w .desk) (w .chose .place) .round)) (two .runs)
-      (kept c steps typed (w .chose .place) .desks (w .desk) .activity) in
+      (kept house steps typed (w .chose .place) .desks (w .desk) .activity) in
       let value : valueOf (o .task) ≡ g .value = ap valueOf task ∙ sym (own .2) in
       record {
         tag = inr (own .1, range .stamp (w .bytes) g task (two .phase-two), subst Seated (sym (own .0)) (range .seated));
@@ -92,16 +95,17 @@ module _ (c : Config) (steps : List Step) (typed : Typed steps) where
       }
 
   pub register-range : (k : ℕ) (g : Register) → Carries r k g → RegisterRange c g
-  register-range k g p = ⊎-elim (λ (e : g ≡ start). start-range g e) (λ (w : Written r g). written-range g w) (traced c steps k g p)
+  register-range k g p = ⊎-elim (λ (e : g ≡ start). start-range g e) (λ (w : Written r g). written-range g w) (traced house steps k g p)
 
 -- ---- after every step of every run
 
-pub ranges : (c : Config) → validOf c ≡ true → (steps : List Step) → Typed steps → (k : ℕ) → StateRange c (at (runOf machine c steps) k)
-ranges c valid steps typed k =
-    let inv = invariant c valid steps k in
-    let now = kept c steps typed k in
-    let replica : (x : Replica) → Carries (runOf machine c steps) k (x .register) → Closed (historyAt c steps k) (x .set) → ReplicaRange c x =
-    λ x g a. record { register = register-range c steps typed k (x .register) g; set = closed-range c valid (inv .lawful) a } in
+pub ranges : (house : House) → lawfulOf (configOf house) ≡ true → (steps : List Step) → Typed steps → (k : ℕ)
+    → StateRange (configOf house) (at (runOf machine house steps) k)
+ranges house lawful steps typed k =
+    let inv = invariant house lawful steps k in
+    let now = kept house steps typed k in
+    let replica : (x : Replica) → Carries (runOf machine house steps) k (x .register) → Closed (historyAt house steps k) (x .set) → ReplicaRange (configOf house) x =
+    λ x g a. record { register = register-range house steps typed k (x .register) g; set = closed-range (configOf house) lawful (inv .lawful) a } in
     record {
       servers = λ i. replica _ (by-server i refl) (inv .servers i .closed);
       desks =
@@ -109,8 +113,8 @@ ranges c valid steps typed k =
           record {
             work = now .desks d;
             replica = replica _ (by-desk d refl) (inv .desks d .closed);
-            chosen = λ o g e f. register-range c steps typed k g (by-operation d o e f);
-            told = λ y e. register-range c steps typed k (y .register) (by-result d y e refl);
+            chosen = λ o g e f. register-range house steps typed k g (by-operation d o e f);
+            told = λ y e. register-range house steps typed k (y .register) (by-result d y e refl);
           };
       messages = λ m i. record { head = now .heads m i; replica = replica _ (by-message m i refl) (inv .messages m i .closed) };
     }

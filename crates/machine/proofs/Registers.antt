@@ -7,7 +7,7 @@ use mathlib.Core.Logic.{⊎-elim}
 use mathlib.Core.Bool.{true}
 use mathlib.Core.List.{List}
 use Rattle.quorums.proofs.Tests.{le-or-lt}
-use Rattle.config.specs.declared.cluster.Config.{Config}
+use Rattle.config.specs.Cluster.{House}
 use Rattle.machine.specs.Parties.{Register, below, Replica, join, Task, write, Phase, first, second, Activity, idle, running, ended, Desk, Operation}
 use Rattle.machine.specs.Runs.{deskAt}
 use Rattle.machine.specs.Calls.{chosen}
@@ -48,9 +48,9 @@ phase-rises : (d : ℕ) (t : Task) (b h j : Register) (f : Phase) → h ≼ j �
 phase-rises d t b h j first e p = tt
 phase-rises d t b h j (second g) e p = (p .0, tag-trans g h j (p .1) e)
 
-module _ (c : Config) (steps : List Step) where
+module _ (house : House) (steps : List Step) where
   abbrev r : PlainRun
-  r = runOf machine c steps
+  r = runOf machine house steps
 
   abbrev heldAt : ℕ → ℕ → Register
   heldAt d k = deskAt r d k .replica .register
@@ -60,7 +60,7 @@ module _ (c : Config) (steps : List Step) where
   held-kept : (d k : ℕ) → heldAt d k ≼ heldAt d (suc k)
   held-kept d k =
       let x = deskAt r d k in
-      desk-moved c steps d k (λ l y. heldAt d k ≼ y .replica .register)
+      desk-moved house steps d k (λ l y. heldAt d k ≼ y .replica .register)
       (record {
         still = tag-refl (heldAt d k);
         begins = λ t note b l e m. tag-refl (heldAt d k);
@@ -88,7 +88,7 @@ module _ (c : Config) (steps : List Step) where
       λ m. tag-trans b (heldAt d k) _ (g .held) (join-left (x .replica) m) in
       let later : (o : Operation) (m : Replica) → x .activity ≡ running o → Doing d t b (join (x .replica) m .register) (running o) =
       λ o m e. (runs o e .0, phase-rises d t b (heldAt d k) _ (o .phase) (join-left (x .replica) m) (runs o e .1)) in
-      desk-moved c steps d k (λ l y. Going d t b y)
+      desk-moved house steps d k (λ l y. Going d t b y)
       (record {
         still = g;
         begins = λ u note n l e m. absurd (none u n);
@@ -114,7 +114,7 @@ module _ (c : Config) (steps : List Step) where
   current-going : (d i k : ℕ) (t : Task) → Current (viewOf r) d i t k → Going d t (heldAt d i) (deskAt r d k)
   current-going d i k t n =
       during (λ p. Going d t (heldAt d i) (deskAt r d p)) (suc i) k (omega arith) (n .earlier) n (λ q l e none. going-kept d q t (heldAt d i) none)
-      (subst (Going d t (heldAt d i)) (sym (begins-is c steps d i t (n .begun) .after)) (record { held = tag-refl (heldAt d i); doing = (refl, tt) }))
+      (subst (Going d t (heldAt d i)) (sym (begins-is house steps d i t (n .begun) .after)) (record { held = tag-refl (heldAt d i); doing = (refl, tt) }))
 
   -- what an operation chose was picked from a register held after its begin, and is no higher than the one held in phase 2
   chose-in-phase : (d i : ℕ) (t : Task) (g : Register) (h : Chose (viewOf r) d i t g) → InPhase d t (heldAt d i) (heldAt d (h .place)) (second g)

@@ -6,7 +6,7 @@ use mathlib.Core.Path.{_≡_, refl, sym, _∙_, subst}
 use mathlib.Core.Logic.{_⊎_, inl, inr, ⊎-elim}
 use mathlib.Core.Bool.{true}
 use mathlib.Core.List.{List, [], _∷_, _++_}
-use Rattle.config.specs.Cluster.{validOf}
+use Rattle.config.specs.Cluster.{House, configOf, lawfulOf}
 use Rattle.config.specs.declared.cluster.Config.{Config}
 use Rattle.machine.specs.Sets.{has, includes}
 use Rattle.machine.specs.Parties.{Replica, join, share, Message, Desk}
@@ -101,16 +101,19 @@ module _ {c : Config} {h : History} {s : PlainState} (inv : Invariant c h s) (p 
         ends = λ d k m o g x i q f. quiet d _ (inr (refl, joined-nothing (s .desks d .replica) (m .replica) i));
       })
 
-module _ (c : Config) (valid : validOf c ≡ true) (steps : List Step) where
+module _ (house : House) (lawful : lawfulOf (configOf house) ≡ true) (steps : List Step) where
+  abbrev c : Config
+  c = configOf house
+
   abbrev r : PlainRun
-  r = runOf machine c steps
+  r = runOf machine house steps
 
   all-cover : (k : ℕ) → AllCover (at r k)
   unfolding at
   all-cover zero = λ m i. absurd i
   all-cover (suc k) =
       when-cases (λ z. AllCover (z .state)) (nth steps k) (nothing (at r k)) (stepped c (at r k)) (all-cover k)
-      (λ st e. step-covers (invariant c valid steps k) (all-cover k) st)
+      (λ st e. step-covers (invariant house lawful steps k) (all-cover k) st)
 
   -- a request or reply of desk d in its current round has the desk's set
   pub current-has : (d k : ℕ) (m : Message) → In m (at r k .sent) → (m .kind ≡ share → ⊥) → m .desk ≡ d → m .round ≡ deskAt r d k .round

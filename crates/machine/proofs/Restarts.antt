@@ -14,10 +14,10 @@ use Rattle.quorums.proofs.Tests.{or-false}
 use Rattle.quorums.proofs.Sums.{sum-suc, sum-le, sum-zero}
 use Rattle.format.specs.Bytes.{stands}
 use Rattle.format.proofs.Marks.{stands-pos, stands-most}
-use Rattle.config.specs.declared.cluster.Config.{Config}
+use Rattle.config.specs.Cluster.{House}
 use Rattle.machine.specs.Sets.{Transfer, Transfers, has, includes, missing, union}
 use Rattle.machine.specs.Parties.{Message, join, Task, Operation, Result, Activity, idle, running, ended, Desk}
-use Rattle.machine.specs.Runs.{Answer, unmade, done, wrote, told, nth, when, at, answerAt, deskAt}
+use Rattle.machine.specs.Runs.{config, Answer, unmade, done, wrote, told, nth, when, at, answerAt, deskAt}
 use Rattle.machine.specs.Steps.{Step, result, runOf, PlainRun, machine}
 use Rattle.machine.specs.Seen.{accepted, hears, heard, transfersOf, viewOf}
 use Rattle.machine.specs.Views.{Current, Ends, restartsMade, gain, Told, Restarts}
@@ -42,9 +42,9 @@ Counts n idle = Unit
 Counts n (running o) = o .restarts ≡ n
 Counts n (ended x) = x .restarts ≡ n
 
-module _ (c : Config) (steps : List Step) where
+module _ (house : House) (steps : List Step) where
   abbrev r : PlainRun
-  r = runOf machine c steps
+  r = runOf machine house steps
 
   -- ---- what a desk's set has
 
@@ -53,7 +53,7 @@ module _ (c : Config) (steps : List Step) where
       → has (deskAt r d (suc k) .replica .set) t ≡ cond (has (deskAt r d k .replica .set) t) true (has (brings r d k) t)
   unfolding join has
   held-next d k t =
-      desk-moved c steps d k (λ a y. has (y .replica .set) t ≡ cond (has (deskAt r d k .replica .set) t) true (has a t))
+      desk-moved house steps d k (λ a y. has (y .replica .set) t ≡ cond (has (deskAt r d k .replica .set) t) true (has a t))
       (record {
         still = or-false (has (deskAt r d k .replica .set) t);
         begins = λ u note b l rests room. or-false (has (deskAt r d k .replica .set) t);
@@ -112,7 +112,7 @@ module _ (c : Config) (steps : List Step) where
       → Counts (n + stands (length (missing (deskAt r d k .replica .set) (brings r d k)))) (deskAt r d (suc k) .activity)
   unfolding missing stands
   counts-next d k n none-here h =
-      desk-moved c steps d k (λ a y. Counts (n + stands (length (missing (deskAt r d k .replica .set) a))) (y .activity))
+      desk-moved house steps d k (λ a y. Counts (n + stands (length (missing (deskAt r d k .replica .set) a))) (y .activity))
       (record {
         still = subst (λ a. Counts a (deskAt r d k .activity)) same h;
         begins = λ u note b l rests room. absurd (none-here u b);
@@ -135,7 +135,7 @@ module _ (c : Config) (steps : List Step) where
 
   counts-first : (d i : ℕ) (t : Task) → Current (viewOf r) d i t (suc i) → Counts (sum (suc i) (counted d i)) (deskAt r d (suc i) .activity)
   counts-first d i t h =
-      let b = begins-is c steps d i t (h .begun) in
+      let b = begins-is house steps d i t (h .begun) in
       subst (λ (y : Desk). Counts (sum (suc i) (counted d i)) (y .activity)) (sym (b .after))
       (sym (sum-zero (suc i) (counted d i) (λ p l. rw (le-ltb i p (omega arith)))))
 
@@ -151,7 +151,7 @@ module _ (c : Config) (steps : List Step) where
   made : (d i k : ℕ) (t : Task) (x : Result) → Ends (viewOf r) d i t k x → x .restarts ≡ restartsMade (viewOf r) d i k
   unfolding restartsMade
   made d i k t x h =
-      subst (Counts (sum (suc k) (counted d i))) (gives-ended c steps d (suc k) x (h .after) .1) (counts d i (suc k) t (current-ended h))
+      subst (Counts (sum (suc k) (counted d i))) (gives-ended house steps d (suc k) x (h .after) .1) (counts d i (suc k) t (current-ended h))
 
   gained : (d i k : ℕ) → restartsMade (viewOf r) d i k ≤ gain (viewOf r) d i k
   unfolding restartsMade gain
@@ -181,7 +181,7 @@ module _ (c : Config) (steps : List Step) where
       → length (deskAt r d (suc k) .replica .set) ≡ length (deskAt r d k .replica .set) + length (missing (deskAt r d k .replica .set) (brings r d k))
   unfolding join missing
   size-next d k =
-      desk-moved c steps d k
+      desk-moved house steps d k
       (λ a y. length (y .replica .set) ≡ length (deskAt r d k .replica .set) + length (missing (deskAt r d k .replica .set) a))
       (record {
         still = omega arith;
@@ -199,7 +199,7 @@ module _ (c : Config) (steps : List Step) where
       during (λ q. length (deskAt r d i .replica .set) + sum q (gains d i) ≡ length (deskAt r d q .replica .set)) (suc i) k (omega arith) (h .earlier) h
       (λ q l a n e. omega (arith, e, sum-suc q (gains d i), gains-is d i q l, size-next d q))
       (let none : sum (suc i) (gains d i) ≡ 0 = sum-zero (suc i) (gains d i) (λ p l. rw (le-ltb i p (omega arith))) in
-      omega (arith, ap (λ y. length (y .replica .set)) (begins-is c steps d i t (h .begun) .after)))
+      omega (arith, ap (λ y. length (y .replica .set)) (begins-is house steps d i t (h .begun) .after)))
 
   growth : (d i k : ℕ) (t : Task) (x : Result) → Ends (viewOf r) d i t k x
       → length (deskAt r d i .replica .set) + gain (viewOf r) d i k ≡ length (deskAt r d (suc k) .replica .set)
@@ -214,7 +214,7 @@ module _ (c : Config) (steps : List Step) where
   reported q x =
       when-cases (λ (z : PlainMade). z .answer ≡ told x → Told (viewOf r) q x) (nth steps q) _ _ (apart unmade refl)
       (λ st s.
-      moved c (at r q) (λ h z. z .answer ≡ told x → Told (viewOf r) q x) st
+      moved (config r) (at r q) (λ h z. z .answer ≡ told x → Told (viewOf r) q x) st
       (record {
         still = λ a e f. absurd (false≢true (sym e ∙ ap accepted f));
         tells = λ d y e at f g. told-by d (s ∙ ap some e) (f ∙ ap ended (told-is g));
@@ -234,7 +234,7 @@ module _ (c : Config) (steps : List Step) where
     where
       told-by : (d : ℕ) → nth steps q ≡ some (result d) → deskAt r d q .activity ≡ ended x → Told (viewOf r) q x
       told-by d s e =
-          let from = ended-origin c steps d q x e in
+          let from = ended-origin house steps d q x e in
           record {
             desk = d;
             begun = from .begun;
@@ -249,5 +249,5 @@ module _ (c : Config) (steps : List Step) where
       apart : (a : Answer) → telling a ≡ false → a ≡ told x → Told (viewOf r) q x
       apart a e f = absurd (tells-nothing a e x f)
 
-pub restarts : (c : Config) (steps : List Step) → Restarts (viewOf (runOf machine c steps))
-restarts c steps = record { reported = reported c steps; made = made c steps; gained = gained c steps; growth = growth c steps }
+pub restarts : (house : House) (steps : List Step) → Restarts (viewOf (runOf machine house steps))
+restarts house steps = record { reported = reported house steps; made = made house steps; gained = gained house steps; growth = growth house steps }

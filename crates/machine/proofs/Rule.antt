@@ -16,11 +16,11 @@ use Rattle.quorums.specs.Published.{WeightedMajority, RpIntegrity, Line12}
 use Rattle.quorums.proofs.Tests.{test-false, chosen-first}
 use Rattle.quorums.proofs.Differences.{difference-le, difference-same, difference-more}
 use Rattle.quorums.proofs.Rule.{quorum-published, floor-published, gift-published}
-use Rattle.config.specs.Cluster.{validOf, startOf, totalOf, aboveOf}
+use Rattle.config.specs.Cluster.{House, configOf, lawfulOf, startOf, totalOf, aboveOf}
 use Rattle.config.specs.declared.cluster.Config.{Config}
 use Rattle.machine.specs.Sets.{Transfers, has, union, tally, count, given, received, accounts, weightOf, quorumOf}
 use Rattle.machine.specs.Parties.{Replica, join, Message}
-use Rattle.machine.specs.Runs.{refused, done, put, nth, when, nothing, at, answerAt}
+use Rattle.machine.specs.Runs.{config, refused, done, put, nth, when, nothing, at, answerAt}
 use Rattle.machine.specs.Calls.{mostCount, accept, refuse, given-away, transferBy}
 use Rattle.machine.specs.Steps.{machine, Step, transfer, runOf, PlainRun}
 use Rattle.machine.specs.Seen.{accepted}
@@ -40,17 +40,19 @@ use Rattle.machine.proofs.Sheets.{found-closed, sheets}
 
 -- ---- Definitions 1 and 5, of every set found in a run
 
-module _ (c : Config) (valid : validOf c ≡ true) (steps : List Step) (k : ℕ) (a : Transfers) (found : Found (runOf machine c steps) k a) where
+module _ (house : House) (lawful : lawfulOf (configOf house) ≡ true) (steps : List Step) (k : ℕ) (a : Transfers)
+    (found : Found (runOf machine house steps) k a) where
   -- Definition 1: the machine's quorums are the weighted majorities
-  pub quorum-majority : (q : ℕ → Bool) → (quorumOf c a q ≡ true) ↔ WeightedMajority (c .n) (accounts c a) q
+  pub quorum-majority : (q : ℕ → Bool) → (quorumOf (configOf house) a q ≡ true) ↔ WeightedMajority (house .n) (accounts (configOf house) a) q
   unfolding quorumOf
   quorum-majority q =
-      quorum-published (c .n) (accounts c a) q (closed-total (invariant c valid steps k .lawful) (found-closed c valid steps k a found))
+      quorum-published (house .n) (accounts (configOf house) a) q
+      (closed-total (invariant house lawful steps k .lawful) (found-closed house lawful steps k a found))
 
   -- Definition 5, RP-Integrity: every weight is above W / (2(n − f))
-  pub integrity : RpIntegrity (c .n) (c .f) (accounts c a)
+  pub integrity : RpIntegrity (house .n) (house .f) (accounts (configOf house) a)
   unfolding total totalOf aboveOf weightOf
-  integrity = floor-published (c .n) (c .f) (accounts c a) .0 (sheets c valid steps k a found .floor)
+  integrity = floor-published (house .n) (house .f) (accounts (configOf house) a) .0 (sheets house lawful steps k a found .floor)
 
 -- ---- Algorithm 4, line 12
 
@@ -124,7 +126,7 @@ weight-grows c a b o p more i own = difference-le _ _ _ _ (omega (arith, receive
 
 -- the weight of server i after the first k steps, on the set that it holds itself
 abbrev pub ownWeight : PlainRun → ℕ → ℕ → ℤ
-ownWeight r k i = weightOf (r .config) (at r k .servers i .set) i
+ownWeight r k i = weightOf (config r) (at r k .servers i .set) i
 
 -- step k is an accepted transfer of server i
 pub record OwnTransfer (r : PlainRun) (k i : ℕ) : Type 0 where
@@ -133,9 +135,12 @@ pub record OwnTransfer (r : PlainRun) (k i : ℕ) : Type 0 where
   pub step : nth (r .steps) k ≡ some (transfer i taker amount)
   pub taken : answerAt r k ≡ done
 
-module _ (c : Config) (valid : validOf c ≡ true) (steps : List Step) (k i : ℕ) where
+module _ (house : House) (lawful : lawfulOf (configOf house) ≡ true) (steps : List Step) (k i : ℕ) where
+  abbrev c : Config
+  c = configOf house
+
   abbrev r : PlainRun
-  r = runOf machine c steps
+  r = runOf machine house steps
 
   abbrev s : PlainState
   s = at r k
@@ -153,7 +158,7 @@ module _ (c : Config) (valid : validOf c ≡ true) (steps : List Step) (k i : �
   joined p m e =
       let a = s .servers i .set in
       let b = m .replica .set in
-      let inv = invariant c valid steps k in
+      let inv = invariant house lawful steps k in
       let here = inv .servers i .closed in
       let there = inv .messages m (nth-in (s .sent) p m e) .closed in
       inl
@@ -196,7 +201,7 @@ module _ (c : Config) (valid : validOf c ≡ true) (steps : List Step) (k i : �
       refl
 
   -- a server's weight is lower after step k only where step k is its own accepted transfer
-  pub own-transfers : ownWeight (runOf machine c steps) (suc k) i <ℤ ownWeight (runOf machine c steps) k i → OwnTransfer (runOf machine c steps) k i
+  pub own-transfers : ownWeight (runOf machine house steps) (suc k) i <ℤ ownWeight (runOf machine house steps) k i → OwnTransfer (runOf machine house steps) k i
   unfolding at
   own-transfers lower =
       ⊎-elim (λ (l : ownWeight r k i ≤ℤ ownWeight r (suc k) i). clashℤ lower l) (λ (o : OwnTransfer r k i). o)

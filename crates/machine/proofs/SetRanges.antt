@@ -9,9 +9,9 @@ use mathlib.Core.List.{List, [], _∷_}
 use borrow.Author.Tests.{eqb-true}
 use lib.Dec.{eqb}
 use Rattle.quorums.specs.Sum.{sum}
-use Rattle.config.specs.Cluster.{validOf, startOf, totalOf, mostWeight}
+use Rattle.config.specs.Cluster.{House, configOf, lawfulOf, startOf, totalOf, mostWeight}
 use Rattle.config.specs.declared.cluster.Config.{Config}
-use Rattle.config.proofs.Clusters.{valid-bounds, total-small}
+use Rattle.config.proofs.Clusters.{lawful-bounds, total-small}
 use Rattle.machine.specs.Sets.{Transfer, Transfers, has, union, tally, count, cell, given, received}
 use Rattle.machine.specs.Calls.{mostCount}
 use Rattle.machine.specs.Steps.{Step, runOf, machine}
@@ -60,13 +60,13 @@ where-zero true true k h = absurd (h refl refl)
 where-zero true false k h = refl
 where-zero false y k h = refl
 
-module _ (c : Config) (valid : validOf c ≡ true) {h : History} {a : Transfers} (law : Lawfully (c .n) (c .f) (startOf c) h) (k : Closed h a) where
+module _ (c : Config) (lawful : lawfulOf c ≡ true) {h : History} {a : Transfers} (law : Lawfully (c .n) (c .f) (startOf c) h) (k : Closed h a) where
   -- every amount is from 1 to 16,000
   amounts : (t : Transfer) → has a t ≡ true → (1 ≤ t .amount) × (t .amount ≤ mostWeight)
   unfolding totalOf
   amounts =
       closed-each k (λ t. (1 ≤ t .amount) × (t .amount ≤ mostWeight))
-      (λ g m e. (law .each g m .amount, omega (arith, law .each g m .most, total-small c valid)))
+      (λ g m e. (law .each g m .amount, omega (arith, law .each g m .most, total-small c lawful)))
 
   count-given : (i : ℕ) → count a i ≤ given a i
   unfolding count given
@@ -109,18 +109,21 @@ module _ (c : Config) (valid : validOf c ≡ true) {h : History} {a : Transfers}
         givers-inside = λ i j l. cell-none i j (λ t e s u. givers-inside law k i l t e s);
         takers-inside = λ i j l. cell-none i j (closed-each k (λ t. t .giver ≡ i → t .taker ≡ j → ⊥) (λ g m e s u. omega (arith, law .each g m .taker)));
         rows = row;
-        columns = λ j. received-cells law k 16 j (valid-bounds c valid .most);
+        columns = λ j. received-cells law k 16 j (lawful-bounds c lawful .most);
       }
     where
       row : (i : ℕ) → sum 16 (cell a i) ≡ given a i
-      row i = given-cells law k 16 i (valid-bounds c valid .most)
+      row i = given-cells law k 16 i (lawful-bounds c lawful .most)
 
 -- ---- in a run
 
-module _ (c : Config) (valid : validOf c ≡ true) (steps : List Step) where
-  -- every set held or sent, and what two of them join to
-  pub found-range : (k : ℕ) (a : Transfers) → Found (runOf machine c steps) k a → SetRange c a
-  found-range k a f = closed-range c valid (invariant c valid steps k .lawful) (found-closed c valid steps k a f)
+module _ (house : House) (lawful : lawfulOf (configOf house) ≡ true) (steps : List Step) where
+  abbrev c : Config
+  c = configOf house
 
-  pub union-range : (k l : ℕ) (a b : Transfers) → Found (runOf machine c steps) k a → Found (runOf machine c steps) l b → SetRange c (union a b)
-  union-range k l a b f g = closed-range c valid (invariant c valid steps (k + l) .lawful) (union-closed c valid steps k l a b f g)
+  -- every set held or sent, and what two of them join to
+  pub found-range : (k : ℕ) (a : Transfers) → Found (runOf machine house steps) k a → SetRange c a
+  found-range k a f = closed-range c lawful (invariant house lawful steps k .lawful) (found-closed house lawful steps k a f)
+
+  pub union-range : (k l : ℕ) (a b : Transfers) → Found (runOf machine house steps) k a → Found (runOf machine house steps) l b → SetRange c (union a b)
+  union-range k l a b f g = closed-range c lawful (invariant house lawful steps (k + l) .lawful) (union-closed house lawful steps k l a b f g)

@@ -10,9 +10,9 @@ use mathlib.Core.List.{List, [], _∷_, _++_}
 use Rattle.quorums.specs.Accounts.{total}
 use Rattle.quorums.proofs.Weights.{weights-total}
 use Rattle.quorums.proofs.Meeting.{Shared}
-use Rattle.config.specs.Cluster.{validOf, startOf, totalOf, aboveOf}
+use Rattle.config.specs.Cluster.{House, configOf, lawfulOf, startOf, totalOf, aboveOf}
 use Rattle.config.specs.declared.cluster.Config.{Config}
-use Rattle.config.proofs.Clusters.{valid-bounds}
+use Rattle.config.proofs.Clusters.{lawful-bounds}
 use Rattle.machine.specs.Sets.{Transfers, has, union, count, accounts, weightOf, quorumOf}
 use Rattle.machine.specs.Runs.{nth, when, at}
 use Rattle.machine.specs.Steps.{Step, runOf, PlainRun, machine}
@@ -29,13 +29,13 @@ use Rattle.machine.proofs.Always.{historyAt, invariant}
 
 -- ---- closed sets are sound
 
-pub sound : (c : Config) → validOf c ≡ true → (h : History) (a : Transfers) → Lawfully (c .n) (c .f) (startOf c) h → Closed h a → Sound c a
+pub sound : (c : Config) → lawfulOf c ≡ true → (h : History) (a : Transfers) → Lawfully (c .n) (c .f) (startOf c) h → Closed h a → Sound c a
 unfolding totalOf aboveOf weightOf quorumOf total
-sound c valid h a law closed =
+sound c lawful h a law closed =
     record {
       weights = weights-total (c .n) (accounts c a) (closed-total law closed);
-      floor = closed-floor law (started c valid) closed;
-      majority = closed-majority (omega (arith, valid-bounds c valid .crash)) law (started c valid) closed;
+      floor = closed-floor law (started c lawful) closed;
+      majority = closed-majority (omega (arith, lawful-bounds c lawful .crash)) law (started c lawful) closed;
     }
 
 -- ---- a set stays closed while the history grows
@@ -44,49 +44,52 @@ closed-grown : (g h : History) (a : Transfers) → Closed h a → Closed (g ++ h
 closed-grown [] h a k = k
 closed-grown (x ∷ g) h a k = closed-more x (g ++ h) a (closed-grown g h a k)
 
-module _ (c : Config) (valid : validOf c ≡ true) (steps : List Step) where
-  abbrev r : PlainRun
-  r = runOf machine c steps
+module _ (house : House) (lawful : lawfulOf (configOf house) ≡ true) (steps : List Step) where
+  abbrev c : Config
+  c = configOf house
 
-  closed-later : (k l : ℕ) (a : Transfers) → k ≤ l → Closed (historyAt c steps k) a → Closed (historyAt c steps l) a
+  abbrev r : PlainRun
+  r = runOf machine house steps
+
+  closed-later : (k l : ℕ) (a : Transfers) → k ≤ l → Closed (historyAt house steps k) a → Closed (historyAt house steps l) a
   unfolding historyAt
   closed-later k l a e p =
-      from-on (λ z. Closed (historyAt c steps z) a) k p
-      (λ z m f. closed-grown (when (nth steps z) [] (giftOf c (at r z))) (historyAt c steps z) a f)
+      from-on (λ z. Closed (historyAt house steps z) a) k p
+      (λ z m f. closed-grown (when (nth steps z) [] (giftOf c (at r z))) (historyAt house steps z) a f)
       l
       e
 
   -- every set held or sent is closed
-  pub found-closed : (k : ℕ) (a : Transfers) → Found r k a → Closed (historyAt c steps k) a
-  found-closed k a (by-server i e) = subst (Closed (historyAt c steps k)) e (invariant c valid steps k .servers i .closed)
-  found-closed k a (by-desk d e) = subst (Closed (historyAt c steps k)) e (invariant c valid steps k .desks d .closed)
+  pub found-closed : (k : ℕ) (a : Transfers) → Found r k a → Closed (historyAt house steps k) a
+  found-closed k a (by-server i e) = subst (Closed (historyAt house steps k)) e (invariant house lawful steps k .servers i .closed)
+  found-closed k a (by-desk d e) = subst (Closed (historyAt house steps k)) e (invariant house lawful steps k .desks d .closed)
   found-closed k a (by-message p m e f) =
-      subst (Closed (historyAt c steps k)) f (invariant c valid steps k .messages m (nth-in (at r k .sent) p m e) .closed)
+      subst (Closed (historyAt house steps k)) f (invariant house lawful steps k .messages m (nth-in (at r k .sent) p m e) .closed)
 
-  pub found-later : (k l : ℕ) (a : Transfers) → k ≤ l → Found r k a → Closed (historyAt c steps l) a
+  pub found-later : (k l : ℕ) (a : Transfers) → k ≤ l → Found r k a → Closed (historyAt house steps l) a
   found-later k l a e f = closed-later k l a e (found-closed k a f)
 
   -- and a prefix of the history: of the transfers that a server made it has exactly those numbered up to the server's count
-  pub found-prefix : (k : ℕ) (a : Transfers) → Found r k a → (g : Gift) → In g (historyAt c steps k)
+  pub found-prefix : (k : ℕ) (a : Transfers) → Found r k a → (g : Gift) → In g (historyAt house steps k)
       → (has a (g .transfer) ≡ true) ↔ (g .transfer .number ≤ count a (g .transfer .giver))
   found-prefix k a f g m =
-      let law = invariant c valid steps k .lawful in
+      let law = invariant house lawful steps k .lawful in
       (has-numbered law (found-closed k a f) g m, numbered-has law (found-closed k a f) g m)
 
   -- in which each giver's numbers run from 1 without a gap
   pub found-numbers : (k : ℕ) (a : Transfers) → Found r k a → (i j : ℕ) → 1 ≤ j → j ≤ count a i → Numbered a i j
-  found-numbers k a f i j = no-gap (invariant c valid steps k .lawful) (found-closed k a f) i j
+  found-numbers k a f i j = no-gap (invariant house lawful steps k .lawful) (found-closed k a f) i j
 
   -- ---- the clause
 
   pub sheets : Sheets r
-  sheets k a f = sound c valid (historyAt c steps k) a (invariant c valid steps k .lawful) (found-closed k a f)
+  sheets k a f = sound c lawful (historyAt house steps k) a (invariant house lawful steps k .lawful) (found-closed k a f)
 
   -- ---- unions of sets found at whatever places
 
-  pub union-closed : (k l : ℕ) (a b : Transfers) → Found r k a → Found r l b → Closed (historyAt c steps (k + l)) (union a b)
+  pub union-closed : (k l : ℕ) (a b : Transfers) → Found r k a → Found r l b → Closed (historyAt house steps (k + l)) (union a b)
   union-closed k l a b f g =
-      closed-union (historyAt c steps (k + l)) a b (found-later k (k + l) a (omega arith) f) (found-later l (k + l) b (omega arith) g)
+      closed-union (historyAt house steps (k + l)) a b (found-later k (k + l) a (omega arith) f) (found-later l (k + l) b (omega arith) g)
 
   -- ---- question four in a run
 
@@ -100,7 +103,7 @@ module _ (c : Config) (valid : validOf c ≡ true) (steps : List Step) where
       → Shared (c .n) p q
   unfolding quorumOf
   found-share k l a b f g p q =
-      quorums-share-counted (invariant c valid steps (k + l) .lawful) (started c valid) (found-later k (k + l) a (omega arith) f)
+      quorums-share-counted (invariant house lawful steps (k + l) .lawful) (started c lawful) (found-later k (k + l) a (omega arith) f)
       (found-later l (k + l) b (omega arith) g)
       p
       q

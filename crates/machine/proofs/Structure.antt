@@ -12,7 +12,7 @@ use borrow.Author.Tests.{lt-ltb, le-ltb, ltb-true, le-leb, lt-leb, eq-eqb, ne-eq
 use lib.Dec.{leb, ltb}
 use Rattle.quorums.proofs.Sums.{below-suc}
 use Rattle.config.specs.declared.cluster.Config.{Config}
-use Rattle.machine.specs.Runs.{put, nth, when, unmade, done, Outcome, Call, of-server, of-desk, crashing, Asked, call, call-with, State, Made, nothing, afterServer, onServer, afterDesk, onDesk, afterCrash, onCrash, perform, take, Run, stepFrom, at, answerAt}
+use Rattle.machine.specs.Runs.{config, put, nth, when, unmade, done, Outcome, Call, of-server, of-desk, crashing, Asked, call, call-with, State, Made, nothing, afterServer, onServer, afterDesk, onDesk, afterCrash, onCrash, perform, take, Run, stepFrom, at, answerAt}
 use Rattle.machine.proofs.Branches.{branch}
 use Rattle.machine.proofs.Desks.{put-cases}
 
@@ -64,18 +64,18 @@ pub record Crashed {S D M T : Type 0} (r : Run S D M T) (k i : ℕ) : Type 0 whe
   pub place : ℕ
   pub earlier : place < k
   pub step : Calls r place (crashing i)
-  pub below : i < r .config .n
+  pub below : i < config r .n
 
 pub record Structure {S D M T : Type 0} (r : Run S D M T) : Type 0 where
   -- who makes a call
-  pub server-made : (k i : ℕ) (f : S → Outcome M S) → Calls r k (of-server i f) → i < r .config .n → at r k .crashed i ≡ false
+  pub server-made : (k i : ℕ) (f : S → Outcome M S) → Calls r k (of-server i f) → i < config r .n → at r k .crashed i ≡ false
       → ServerMade r k i (f (at r k .servers i))
   pub desk-made : (k d : ℕ) (f : D → Outcome M D) → Calls r k (of-desk d f) → 1 ≤ d → d ≤ 65535 → DeskMade r k d (f (at r k .desks d))
-  pub crash-made : (k i : ℕ) → Calls r k (crashing i) → i < r .config .n → CrashMade r k i
+  pub crash-made : (k i : ℕ) → Calls r k (crashing i) → i < config r .n → CrashMade r k i
   -- and who does not
-  pub no-server : (k i : ℕ) (f : S → Outcome M S) → Calls r k (of-server i f) → (r .config .n ≤ i) ⊎ (at r k .crashed i ≡ true) → Unmade r k
+  pub no-server : (k i : ℕ) (f : S → Outcome M S) → Calls r k (of-server i f) → (config r .n ≤ i) ⊎ (at r k .crashed i ≡ true) → Unmade r k
   pub no-desk : (k d : ℕ) (f : D → Outcome M D) → Calls r k (of-desk d f) → (d ≡ 0) ⊎ (65535 < d) → Unmade r k
-  pub no-crash : (k i : ℕ) → Calls r k (crashing i) → r .config .n ≤ i → Unmade r k
+  pub no-crash : (k i : ℕ) → Calls r k (crashing i) → config r .n ≤ i → Unmade r k
   pub no-message : (k : ℕ) (x : T) (p : ℕ) (f : M → Call S D M) → nth (r .steps) k ≡ some x → r .asks x ≡ call-with p f → nth (at r k .sent) p ≡ none
       → Unmade r k
   -- a server has crashed at place k exactly when a step before crashed it
@@ -92,7 +92,7 @@ module _ {S D M T : Type 0} (r : Run S D M T) (k : ℕ) where
   s = at r k
 
   abbrev c : Config
-  c = r .config
+  c = config r
 
   -- a step that asks for a call performs it
   performs : (y : Call S D M) → Calls r k y → stepFrom r s k ≡ perform c s y
@@ -244,7 +244,7 @@ module _ {S D M T : Type 0} (r : Run S D M T) where
       after r k (λ t. t .crashed i ≡ true → Crashed r (suc k) i) (λ q. later k i (crashed-by k i q))
       (λ y m q.
       ⊎-elim (λ (o : at r k .crashed i ≡ true). later k i (crashed-by k i o))
-      (λ (o : (y ≡ crashing i) × (i < r .config .n)).
+      (λ (o : (y ≡ crashing i) × (i < config r .n)).
       record { place = k; earlier = omega arith; step = subst (Calls r k) (o .0) m; below = o .1 })
       (marks r k i y q))
       e

@@ -5,6 +5,7 @@ use mathlib.Core.Path.{_≡_, refl, sym, ap, subst}
 use mathlib.Core.Logic.{_⊎_, inl, inr}
 use mathlib.Core.List.{List, [], _∷_, _++_, append-nil}
 use mathlib.Core.Option.{some}
+use Rattle.config.specs.Cluster.{House, configOf}
 use Rattle.config.specs.declared.cluster.Config.{Config}
 use Rattle.machine.specs.Parties.{Register, start, Replica, join, Message, write, Phase, first, second, Operation, Result, Activity, idle, running, ended, Desk}
 use Rattle.machine.specs.Runs.{put, nth, nothing, at, deskAt}
@@ -79,9 +80,12 @@ sent-one r l m p q = each-append (λ y. Traced r (y .replica .register)) l (m �
 sent-none : (r : PlainRun) (l : List Message) → SentTraced r l → SentTraced r (l ++ [])
 sent-none r l p = subst (SentTraced r) (sym (append-nil l)) p
 
-module _ (c : Config) (steps : List Step) where
+module _ (house : House) (steps : List Step) where
+  abbrev c : Config
+  c = configOf house
+
   abbrev r : PlainRun
-  r = runOf machine c steps
+  r = runOf machine house steps
 
   -- ---- servers and messages
 
@@ -121,7 +125,7 @@ module _ (c : Config) (steps : List Step) where
   choice-traced : (d k : ℕ) (o : Operation) (g : Register) → deskAt r d k .activity ≡ running o → o .phase ≡ second (chosen d (o .task) g) → Traced r g
       → Traced r (chosen d (o .task) g)
   choice-traced d k o g runs second-phase p =
-      let from = running-origin c steps d k o runs in
+      let from = running-origin house steps d k o runs in
       task-cases (λ y. o .phase ≡ second y → Traced r y) (o .task) g _ (λ e f. p)
       (λ v e f.
       inr
@@ -145,7 +149,7 @@ module _ (c : Config) (steps : List Step) where
       let joined : (p : ℕ) (m : Message) → nth (at r k .sent) p ≡ some m → Traced r (join (x .replica) (m .replica) .register) =
       λ p m e. join-either (Traced r) (x .replica) (m .replica) (now .replica) (h .sent m (nth-in (at r k .sent) p m e)) in
       let phase : (o : Operation) → x .activity ≡ running o → PhaseTraced r (o .phase) = λ o e. subst (ActivityTraced r) e (now .activity) in
-      desk-moved c steps d k (λ l y. y ≡ deskAt r d (suc k) → DeskTraced r y)
+      desk-moved house steps d k (λ l y. y ≡ deskAt r d (suc k) → DeskTraced r y)
       (record {
         still = λ e. now;
         begins = λ t note b l rests room e. record { replica = now .replica; activity = tt };

@@ -5,7 +5,7 @@ use native.Mathlib.Omega.{arith}
 use mathlib.Core.Path.{_≡_, refl, sym, ap, _∙_, subst}
 use mathlib.Core.Logic.{inl, inr}
 use mathlib.Core.List.{List}
-use Rattle.config.specs.declared.cluster.Config.{Config}
+use Rattle.config.specs.Cluster.{House}
 use Rattle.machine.specs.Parties.{Register, start, write}
 use Rattle.machine.specs.Runs.{deskAt}
 use Rattle.machine.specs.Steps.{Step, runOf, PlainRun, machine}
@@ -20,25 +20,25 @@ use Rattle.machine.proofs.Traces.{Written, Traced, Carries, by-operatio
 same-bytes : {v : View} {d e i j : ℕ} {a b : List ℕ} → Begins v d i (write a) → Begins v e j (write b) → i ≡ j → a ≡ b
 same-bytes p q same = cc
 
-module _ (c : Config) (steps : List Step) where
+module _ (house : House) (steps : List Step) where
   abbrev r : PlainRun
-  r = runOf machine c steps
+  r = runOf machine house steps
 
   -- the value of a register that a write chose are the bytes given to its begin
   written-value : (g : Register) (w : Written r g) → g .value ≡ w .bytes
-  written-value g w = write-own c steps (w .desk) (w .begun) (w .bytes) g (w .chose) .2
+  written-value g w = write-own house steps (w .desk) (w .begun) (w .bytes) g (w .chose) .2
 
   -- ---- one tag, one register
 
   write-above-start : (g h : Register) → g ≡ start → Written r h → SameTag g h → ⊥
   write-above-start g h e w s =
-      let positive : 1 ≤ h .stamp = write-own c steps (w .desk) (w .begun) (w .bytes) h (w .chose) .1 in
+      let positive : 1 ≤ h .stamp = write-own house steps (w .desk) (w .begun) (w .bytes) h (w .chose) .1 in
       let z : g .stamp ≡ 0 = ap (λ y. y .stamp) e in
       omega (arith, s .0)
 
   written-same : (g h : Register) → Written r g → Written r h → SameTag g h → g ≡ h
   written-same g h a b s =
-      let one = write-once c steps (a .desk) (a .begun) (b .desk) (b .begun) (a .bytes) (b .bytes) g h (a .chose) (b .chose) s in
+      let one = write-once house steps (a .desk) (a .begun) (b .desk) (b .begun) (a .bytes) (b .bytes) g h (a .chose) (b .chose) s in
       let bytes : a .bytes ≡ b .bytes = same-bytes (a .chose .current .begun) (b .chose .current .begun) (one .1) in
       same-register g h s (written-value g a ∙ bytes ∙ sym (written-value h b))
 
@@ -50,7 +50,7 @@ module _ (c : Config) (steps : List Step) where
 
   -- of the registers held, chosen, told or sent at whatever places of a run, those with one tag are one
   pub same-tag-same-register : (k l : ℕ) (a b : Register) → Carries r k a → Carries r l b → SameTag a b → a ≡ b
-  same-tag-same-register k l a b p q s = traced-same a b (traced c steps k a p) (traced c steps l b q) s
+  same-tag-same-register k l a b p q s = traced-same a b (traced house steps k a p) (traced house steps l b q) s
 
   -- ---- what a read returns
 
@@ -64,7 +64,7 @@ module _ (c : Config) (steps : List Step) where
         register = g;
         chose = subst (λ v. Chose (viewOf r) (w .desk) (w .begun) (write v) g) (sym (written-value g w)) (w .chose);
         tag = (refl, refl);
-        only = λ e j v h p s. write-once c steps e j (w .desk) (w .begun) v (w .bytes) h g p (w .chose) s;
+        only = λ e j v h p s. write-once house steps e j (w .desk) (w .begun) v (w .bytes) h g p (w .chose) s;
       })
 
   pub values : Values (viewOf r)
@@ -73,9 +73,9 @@ module _ (c : Config) (steps : List Step) where
         source =
             λ d i g h.
             let two = chosen-runs (deskAt r d (h .place) .activity) g (h .phase-two) in
-            source g (traced c steps (h .place) g (by-operation d (two .operation) (two .runs) (two .phase-two)));
+            source g (traced house steps (h .place) g (by-operation d (two .operation) (two .runs) (two .phase-two)));
         returned =
             λ d i k x h.
-            let is = gives-ended c steps d (suc k) x (h .after) .1 in
-            source (x .register) (traced c steps (suc k) (x .register) (by-result d x is refl));
+            let is = gives-ended house steps d (suc k) x (h .after) .1 in
+            source (x .register) (traced house steps (suc k) (x .register) (by-result d x is refl));
       }

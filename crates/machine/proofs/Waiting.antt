@@ -10,6 +10,7 @@ use lib.IntN.{ℤ, pos}
 use lib.Signed.{ltZ}
 use Rattle.quorums.specs.Accounts.{margin, quorum}
 use Rattle.quorums.proofs.Margins.{nobody-quorum}
+use Rattle.config.specs.Cluster.{House, configOf}
 use Rattle.config.specs.declared.cluster.Config.{Config}
 use Rattle.machine.specs.Sets.{Transfers, accounts, quorumOf}
 use Rattle.machine.specs.Parties.{Operation, Activity, idle, running, ended, if-running, Desk, answered}
@@ -36,28 +37,32 @@ module _ (c : Config) where
   waiting : (a : Transfers) (p : Operation) → Short a p → (o : Operation) → running p ≡ running o → Short a o
   waiting a p short o e = let same : p ≡ o = cc in subst (Short a) same short
 
-  pub waits : (steps : List Step) (d k : ℕ) → Waits (deskAt (runOf machine c steps) d k)
+module _ (house : House) where
+  abbrev c : Config
+  c = configOf house
+
+  pub waits : (steps : List Step) (d k : ℕ) → Waits c (deskAt (runOf machine house steps) d k)
   unfolding at
   waits steps d zero = λ o e. let z : _≡_ {A = ℕ} 0 1 = cc in absurd (omega arith)
   waits steps d (suc k) =
-      desk-moved c steps d k (λ t. Waits)
+      desk-moved house steps d k (λ t. Waits c)
       (record {
         still = waits steps d k;
-        begins = λ t note b l rests room. waiting _ _ (nobody _);
+        begins = λ t note b l rests room. waiting c _ _ (nobody c _);
         drops = λ o f p e. let z : _≡_ {A = ℕ} 0 1 = cc in absurd (omega arith);
-        restarts = λ p m o h i room. waiting _ _ (nobody _);
-        marks = λ p m o h i q. waiting _ _ q;
-        chooses = λ p m o h i q f room w. waiting _ _ (nobody _);
+        restarts = λ p m o h i room. waiting c _ _ (nobody c _);
+        marks = λ p m o h i q. waiting c _ _ q;
+        chooses = λ p m o h i q f room w. waiting c _ _ (nobody c _);
         ends = λ p m o g s h i q f u e. absurd (running-ended e refl);
       })
 
   -- so the number shown is never above zero
-  pub shown-below : (steps : List Step) (d k : ℕ) (y : ℤ) → marginBy c (deskAt (runOf machine c steps) d k) ≡ some y → ltZ (pos 0) y ≡ false
+  pub shown-below : (steps : List Step) (d k : ℕ) (y : ℤ) → marginBy c (deskAt (runOf machine house steps) d k) ≡ some y → ltZ (pos 0) y ≡ false
   unfolding marginBy marginOf quorumOf quorum
   shown-below steps d k y = by-activity (x .activity) refl
     where
       x : Desk
-      x = deskAt (runOf machine c steps) d k
+      x = deskAt (runOf machine house steps) d k
 
       by-activity : (a : Activity) → x .activity ≡ a
           → if-running a (λ o. some (margin (c .n) (accounts c (x .replica .set)) (answered (o .heard)))) none ≡ some y

@@ -9,7 +9,7 @@ use mathlib.Core.List.{List, [], _∷_, _++_}
 use mathlib.Core.Option.{some}
 use borrow.Author.Tests.{leb-false}
 use lib.ListN.{length}
-use Rattle.config.specs.Cluster.{mostStamp}
+use Rattle.config.specs.Cluster.{House, configOf, mostStamp}
 use Rattle.config.specs.declared.cluster.Config.{Config}
 use Rattle.machine.specs.Parties.{Register, Replica, join, share, Message, Task, write, valueOf, Phase, second, Operation, Result, Activity, idle, running, ended, Desk}
 use Rattle.machine.specs.Runs.{done, put, nth, nothing, afterDesk, at}
@@ -238,10 +238,10 @@ module _ {c : Config} {s : PlainState} (k : Kept c s) where
 
 -- ---- every place of a run
 
-pub kept : (c : Config) (steps : List Step) → Typed steps → (k : ℕ) → Kept c (at (runOf machine c steps) k)
+pub kept : (house : House) (steps : List Step) → Typed steps → (k : ℕ) → Kept (configOf house) (at (runOf machine house steps) k)
 unfolding at
-kept c steps typed zero = record { desks = λ d. record { round = omega arith; activity = tt }; heads = λ m i. absurd i }
-kept c steps typed (suc k) =
-    let s = at (runOf machine c steps) k in
-    when-cases (λ z. Kept c (z .state)) (nth steps k) (nothing s) (stepped c s) (kept c steps typed k)
-    (λ st e. step-kept (kept c steps typed k) st (λ d t note f. typed k d t note (e ∙ ap some f)))
+kept house steps typed zero = record { desks = λ d. record { round = omega arith; activity = tt }; heads = λ m i. absurd i }
+kept house steps typed (suc k) =
+    let s = at (runOf machine house steps) k in
+    when-cases (λ z. Kept (configOf house) (z .state)) (nth steps k) (nothing s) (stepped (configOf house) s) (kept house steps typed k)
+    (λ st e. step-kept (kept house steps typed k) st (λ d t note f. typed k d t note (e ∙ ap some f)))

@@ -6,6 +6,7 @@ use mathlib.Core.Bool.{Bool, true, false, cond}
 use mathlib.Core.List.{List, [], _∷_, _++_}
 use mathlib.Core.Option.{Option, none, some}
 use lib.Dec.{eqb, leb, ltb}
+use Rattle.config.specs.Cluster.{House, configOf}
 use Rattle.config.specs.declared.cluster.Config.{Config}
 use Rattle.machine.specs.Parties.{Result}
 
@@ -118,13 +119,18 @@ take c s (call-with k f) = when (nth (s .sent) k) (nothing s) (λ m. perform c s
 
 -- ---- a run
 
--- the cluster, what each server and each desk holds at opening, what a step asks for, and the list of steps
+-- what opening gets (n, f and the start weights), which is the same for all parties; what each server and each desk holds then, what a step asks for, and
+-- the list of steps
 pub record Run (S D M T : Type 0) : Type 0 where
-  pub config : Config
+  pub house : House
   pub server : ℕ → S
   pub desk : ℕ → D
   pub asks : T → Asked S D M
   pub steps : List T
+
+-- the cluster that is made of what opening gets
+abbrev pub config : {S D M T : Type 0} → Run S D M T → Config
+config r = configOf (r .house)
 
 -- all is as it was opened, no server has crashed, and nothing is sent
 abbrev pub opened : {S D M T : Type 0} → Run S D M T → State S D M
@@ -132,7 +138,7 @@ opened r = record { servers = r .server; crashed = λ i. false; desks = r .desk;
 
 -- what a step gives in the state s
 abbrev pub step : {S D M T : Type 0} → Run S D M T → State S D M → T → Made S D M
-step r s x = take (r .config) s (r .asks x)
+step r s x = take (config r) s (r .asks x)
 
 -- step k, from state s; a place past the end of the list changes nothing
 abbrev pub stepFrom : {S D M T : Type 0} → Run S D M T → State S D M → ℕ → Made S D M

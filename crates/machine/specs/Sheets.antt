@@ -10,7 +10,7 @@ use Rattle.config.specs.Cluster.{totalOf, aboveOf}
 use Rattle.config.specs.declared.cluster.Config.{Config}
 use Rattle.machine.specs.Sets.{Transfers, accounts, weightOf, quorumOf}
 use Rattle.machine.specs.Parties.{Message}
-use Rattle.machine.specs.Runs.{nth, at}
+use Rattle.machine.specs.Runs.{config, nth, at}
 use Rattle.machine.specs.Steps.{PlainRun}
 
 -- a set that is held by a server or a desk, or was sent, after the first k steps
@@ -27,4 +27,4 @@ pub record Sound (c : Config) (a : Transfers) : Type 0 where
 
 -- so it is on every sheet held or sent
 abbrev pub Sheets : PlainRun → Type 0
-Sheets r = (k : ℕ) (a : Transfers) → Found r k a → Sound (r .config) a
+Sheets r = (k : ℕ) (a : Transfers) → Found r k a → Sound (config r) a

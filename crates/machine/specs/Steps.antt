@@ -2,6 +2,7 @@
 -- calls are the paper's.
 use Prim.Native.Nat.{ℕ}
 use mathlib.Core.List.{List}
+use Rattle.config.specs.Cluster.{House, configOf}
 use Rattle.config.specs.declared.cluster.Config.{Config}
 use Rattle.machine.specs.Parties.{Replica, fresh, Message, Task, Desk, freshDesk}
 use Rattle.machine.specs.Runs.{Outcome, of-server, of-desk, crashing, Asked, call, call-with, Run}
@@ -60,6 +61,6 @@ askedOf p c (crash i) = call (crashing i)
 abbrev pub PlainRun : Type 0
 PlainRun = Run Replica Desk Message Step
 
--- the run of a store: every server and desk starts fresh
-abbrev pub runOf : Store → Config → List Step → PlainRun
-runOf p c steps = record { config = c; server = λ i. fresh; desk = λ d. freshDesk; asks = askedOf p c; steps = steps }
+-- the run of a store, which is fed what opening gets (paper 02, N2): every server and desk starts fresh
+abbrev pub runOf : Store → House → List Step → PlainRun
+runOf p h steps = record { house = h; server = λ i. fresh; desk = λ d. freshDesk; asks = askedOf p (configOf h); steps = steps }
