@@ -7,11 +7,12 @@ use mathlib.Core.Bool.{Bool, true, false, cond}
 use mathlib.Core.List.{List, [], _∷_, _++_}
 use lib.Dec.{eqb}
 use Rattle.quorums.specs.Sum.{sum}
-use Rattle.config.specs.Cluster.{level, validOf}
+use Rattle.config.specs.Cluster.{level}
+use Rattle.config.proofs.Houses.{level-lawful}
 use Rattle.format.specs.Bytes.{bit}
 use Rattle.machine.specs.Sets.{quorumOf}
 use Rattle.machine.specs.Parties.{start, reply, Message, read, write, second, running, Result}
-use Rattle.machine.specs.Runs.{Answer, late, refused, done, wrote, told, answerAt, deskAt}
+use Rattle.machine.specs.Runs.{config, Answer, late, refused, done, wrote, told, answerAt, deskAt}
 use Rattle.machine.specs.Steps.{Step, begin, ask, serve, hear, result, machine, PlainRun}
 use Rattle.machine.specs.Seen.{viewOf}
 use Rattle.machine.specs.Views.{Ends, Chose, Order}
@@ -115,8 +116,8 @@ pub record Parting : Type 0 where
   pub counted : deskAt theirs 1 23 .activity ≡ running (record { task = write sale; note = 0; phase = second sold; heard = countedReply ∷ []; restarts = 0 })
   pub restarted : deskAt ours 1 23 .activity ≡ running (record { task = write sale; note = 0; phase = second sold; heard = []; restarts = 1 })
   -- 0, 1 and 3 are a quorum on the sheet without the gifts, and none on the sheet with them
-  pub quorum-then : quorumOf (level 5 1) [] three ≡ true
-  pub no-quorum-now : quorumOf (level 5 1) (deskAt ours 2 43 .replica .set) three ≡ false
+  pub quorum-then : quorumOf (config ours) [] three ≡ true
+  pub no-quorum-now : quorumOf (config ours) (deskAt ours 2 43 .replica .set) three ≡ false
   -- desk 1's sale does not end
   pub sale-not-ended : (k : ℕ) (x : Result) → Ends (viewOf ours) 1 0 (write sale) k x → ⊥
 
@@ -135,8 +136,7 @@ parting =
 
 -- The order of tags holds of it, as of every list.
 pub ours-ordered : Order (viewOf ours)
-unfolding validOf
-ours-ordered = order (level 5 1) refl steps
+ours-ordered = order (level 5 1) (level-lawful 5 1 refl) steps
 
 -- ---- and on: desk 1 goes on with its sale through 2 and 4 (places 43 to 52), and desk 3 reads through 2 and 4 (53 to 69)
 

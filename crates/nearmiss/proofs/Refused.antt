@@ -4,7 +4,7 @@ use Prim.Native.Nat.{ℕ, zero, suc}
 use native.Mathlib.Omega.{arith}
 use mathlib.Core.Path.{_≡_, refl}
 use mathlib.Core.List.{[], _∷_}
-use Rattle.config.specs.Cluster.{level}
+use Rattle.config.specs.Cluster.{configOf, level}
 use Rattle.config.specs.declared.cluster.Config.{Config}
 use Rattle.machine.specs.Sets.{Transfer, Transfers, tally, count}
 use Rattle.machine.specs.Parties.{start, fresh, Replica, reply, Message, Task, read, write, Phase, first, second, running, idle, Desk}
@@ -140,7 +140,7 @@ numbers =
 -- ---- 12: a desk at its last round or stamp, of n = 1 and f = 0, so that one reply is a quorum
 
 abbrev pub alone : Config
-alone = level 1 0
+alone = configOf (level 1 0)
 
 -- a desk that runs an operation in round k, and holds a register with a stamp
 abbrev pub running-in : ℕ → ℕ → Task → Phase → Desk
@@ -206,9 +206,9 @@ unfolding swaps count tally
 swaps-counted zero = refl
 swaps-counted (suc k) = omega (arith, swaps-counted k)
 
-spent-at : (r : Replica) → count (r .set) 0 ≡ mostCount → transferBy (level 3 1) 0 r 1 1 ≡ refuse 12 r
+spent-at : (r : Replica) → count (r .set) 0 ≡ mostCount → transferBy (configOf (level 3 1)) 0 r 1 1 ≡ refuse 12 r
 unfolding transferBy
 spent-at r e = rw e
 
-pub transfers-spent : transferBy (level 3 1) 0 (swapped 65535) 1 1 ≡ refuse 12 (swapped 65535)
+pub transfers-spent : transferBy (configOf (level 3 1)) 0 (swapped 65535) 1 1 ≡ refuse 12 (swapped 65535)
 transfers-spent = spent-at (swapped 65535) (swaps-counted 65535)

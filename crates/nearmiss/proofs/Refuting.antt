@@ -5,7 +5,8 @@ use mathlib.Core.Bool.{true, false, true≢false}
 use mathlib.Core.List.{List}
 use borrow.Author.Tests.{ltb-true, eqb-false}
 use lib.Dec.{eqb, ltb}
-use Rattle.config.specs.Cluster.{level, validOf}
+use Rattle.config.specs.Cluster.{inBounds, level}
+use Rattle.config.proofs.Houses.{level-fault}
 use Rattle.machine.specs.Parties.{Register, below, Task, write, Result}
 use Rattle.machine.specs.Runs.{Answer, unmade, late, refused, done, wrote, told, answerAt}
 use Rattle.machine.specs.Steps.{Step, Store, machine}
@@ -42,10 +43,10 @@ pub record Unequal (p : Store) (n f : ℕ) (l : List Step) (k : ℕ) (a b : Answ
   pub differs : SameAnswers p → ⊥
 
 pub unequal : {p : Store} {n f : ℕ} {l : List Step} {k : ℕ} {a b : Answer} → answerAt (runBy p n f l) k ≡ a → answerAt (runBy machine n f l) k ≡ b
-    → validOf (level n f) ≡ true → eqb (codeOf a) (codeOf b) ≡ false → Unequal p n f l k a b
+    → inBounds n f ≡ true → eqb (codeOf a) (codeOf b) ≡ false → Unequal p n f l k a b
 unequal {p} {n} {f} {l} {k} {a} {b} theirs ours v apart =
     record {
       theirs = theirs;
       ours = ours;
-      differs = λ h. eqb-false (codeOf a) (codeOf b) apart (ap codeOf (sym theirs ∙ h (level n f) v l k ∙ ours));
+      differs = λ h. eqb-false (codeOf a) (codeOf b) apart (ap codeOf (sym theirs ∙ h (level n f) (level-fault n f v) l k ∙ ours));
     }

@@ -6,10 +6,9 @@ use mathlib.Core.List.{[], _∷_, _++_}
 use mathlib.Core.Option.{Option, none, some}
 use lib.Dec.{eqb}
 use lib.IntN.{ℤ, pos, negsuc}
-use Rattle.config.specs.Cluster.{level}
 use Rattle.machine.specs.Sets.{weightOf, quorumOf}
 use Rattle.machine.specs.Parties.{start, read, write, first, second, running, Result}
-use Rattle.machine.specs.Runs.{done, told, answerAt, deskAt}
+use Rattle.machine.specs.Runs.{config, done, told, answerAt, deskAt}
 use Rattle.machine.specs.Margins.{marginBy}
 use Rattle.machine.specs.Steps.{begin, ask, serve, result, drop, transfer, share, machine, PlainRun}
 use Rattle.machine.specs.Seen.{viewOf}
@@ -47,9 +46,9 @@ pub record Across : Type 0 where
   pub read-ends : Ends (viewOf across) 2 22 read 37 (returned sold 1)
   pub read-told : answerAt across 38 ≡ told (returned sold 1)
   -- its two servers are a quorum on its own sheet, and were none before
-  pub heavier : weightOf (level 4 1) (deskAt across 2 38 .replica .set) 3 ≡ pos 1333
-  pub quorum-now : quorumOf (level 4 1) (deskAt across 2 38 .replica .set) two ≡ true
-  pub no-quorum-before : quorumOf (level 4 1) [] two ≡ false
+  pub heavier : weightOf (config across) (deskAt across 2 38 .replica .set) 3 ≡ pos 1333
+  pub quorum-now : quorumOf (config across) (deskAt across 2 38 .replica .set) two ≡ true
+  pub no-quorum-before : quorumOf (config across) [] two ≡ false
 
 pub read-across : Across
 unfolding computing
@@ -68,7 +67,7 @@ read-across =
 
 -- desk d after the first k steps
 abbrev pub watched : ℕ → ℕ → Option ℤ
-watched d k = marginBy (level 4 1) (deskAt across d k)
+watched d k = marginBy (config across) (deskAt across d k)
 
 pub record Watched : Type 0 where
   -- desk 1's write: before it begins, with nobody, with one server of four and with two

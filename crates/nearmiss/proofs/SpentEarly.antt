@@ -7,7 +7,7 @@ use mathlib.Core.Path.{_≡_, refl, ap, _∙_}
 use mathlib.Core.List.{List, [], _∷_}
 use mathlib.Core.Option.{some}
 use borrow.Author.Tests.{lt-leb, le-leb}
-use Rattle.config.specs.Cluster.{level, validOf}
+use Rattle.config.specs.Cluster.{House, configOf, level}
 use Rattle.config.specs.declared.cluster.Config.{Config}
 use Rattle.machine.specs.Parties.{fresh, Message, Task, read, first, running, idle, Desk}
 use Rattle.machine.specs.Runs.{refused, done, Outcome, nth, onDesk, take, step}
@@ -38,16 +38,16 @@ abbrev begun-in : ℕ → Desk
 begun-in k = record { replica = fresh; round = k; activity = running (record { task = read; note = 0; phase = first; heard = []; restarts = 0 }) }
 
 abbrev cluster : Config
-cluster = level 3 1
+cluster = configOf (level 3 1)
 
 -- of any begin that goes on up to a round
-module _ (call : Config → Desk → Task → ℕ → Outcome Message Desk) (c : Config) (last : ℕ)
-    (goes : (m : ℕ) → m < last → call c (idle-in m) read 0 ≡ accept done (begun-in (suc m))) where
+module _ (call : Config → Desk → Task → ℕ → Outcome Message Desk) (house : House) (last : ℕ)
+    (goes : (m : ℕ) → m < last → call (configOf house) (idle-in m) read 0 ≡ accept done (begun-in (suc m))) where
   abbrev r : PlainRun
-  r = runOf (withBegin call) c (begins last)
+  r = runOf (withBegin call) house (begins last)
 
   reaches : (k m : ℕ) (s : PlainState) → s .desks 1 ≡ idle-in m → m + k ≡ last
-      → nth (answersFrom r s (begins k)) (double k) ≡ some (call c (idle-in last) read 0 .answer)
+      → nth (answersFrom r s (begins k)) (double k) ≡ some (call (configOf house) (idle-in last) read 0 .answer)
   unfolding answersFrom begins double take onDesk dropBy
   reaches zero m s e l =
       let there : m ≡ last = omega arith in
@@ -71,13 +71,12 @@ until-spent c last l = rw (machine-goes c last l, le-leb last last (le-refl last
 
 -- n = 3, f = 1, and any round below the last: the plain machine begins there.
 pub spent-early : (last : ℕ) → last < mostRound → Unequal (spentEarly last) 3 1 (begins last) (double last) (refused 12) done
-unfolding validOf
 spent-early last l =
     unequal
     (answers-at (runBy (spentEarly last) 3 1 (begins last)) (double last) (refused 12)
-    (reaches (beginUntil last) cluster last (λ m h. until-goes cluster last m l h) last 0 _ refl (omega arith) ∙ ap some (until-spent cluster last l)))
+    (reaches (beginUntil last) (level 3 1) last (λ m h. until-goes cluster last m l h) last 0 _ refl (omega arith) ∙ ap some (until-spent cluster last l)))
     (answers-at (runBy machine 3 1 (begins last)) (double last) done
-    (reaches beginBy cluster last (λ m h. machine-goes cluster m (omega arith)) last 0 _ refl (omega arith)
+    (reaches beginBy (level 3 1) last (λ m h. machine-goes cluster m (omega arith)) last 0 _ refl (omega arith)
     ∙ ap some (ap (λ (o : Outcome Message Desk). o .answer) (machine-goes cluster last l))))
     refl
     refl

@@ -5,9 +5,8 @@ use mathlib.Core.Bool.{false≢true}
 use mathlib.Core.List.{List, [], _∷_}
 use borrow.Author.Tests.{ltb-true}
 use lib.IntN.{pos}
-use Rattle.config.specs.Cluster.{level}
 use Rattle.machine.specs.Sets.{Transfer, weightOf}
-use Rattle.machine.specs.Runs.{refused, done, at, answerAt}
+use Rattle.machine.specs.Runs.{config, refused, done, at, answerAt}
 use Rattle.machine.specs.Steps.{Step, transfer, machine, PlainRun}
 use Rattle.machine.specs.Sheets.{by-server, Sheets}
 use Rattle.machine.proofs.Computing.{computing}
@@ -28,7 +27,7 @@ theirs = runBy (unheard (gift ∷ [])) 5 1 steps
 pub record PassedOn : Type 0 where
   pub gift-made : at theirs 1 .servers 0 .set ≡ gift ∷ []
   pub accepted : answerAt theirs 1 ≡ done
-  pub weight-left : weightOf (level 5 1) (at theirs 2 .servers 1 .set) 1 ≡ pos 252
+  pub weight-left : weightOf (config theirs) (at theirs 2 .servers 1 .set) 1 ≡ pos 252
   -- on the plain machine that is 10
   pub ours : answerAt (runBy machine 5 1 steps) 1 ≡ refused 10
 

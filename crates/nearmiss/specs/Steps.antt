@@ -3,8 +3,7 @@ use Prim.Native.Nat.{ℕ, suc, _+_}
 use mathlib.Core.Path.{_≡_}
 use mathlib.Core.Bool.{true, false}
 use mathlib.Core.List.{List, [], _∷_, _++_}
-use Rattle.config.specs.Cluster.{level, validOf}
-use Rattle.config.specs.declared.cluster.Config.{Config}
+use Rattle.config.specs.Cluster.{House, houseFault, level}
 use Rattle.machine.specs.Parties.{Register, Replica, Message, read, Result, Desk}
 use Rattle.machine.specs.Runs.{State, Answer, opened, step, answerAt}
 use Rattle.machine.specs.Steps.{Step, begin, ask, serve, hear, result, transfer, share, Store, machine, PlainRun, runOf}
@@ -45,7 +44,7 @@ answersFrom r s (x ∷ l) = let m = step r s x in m .answer ∷ answersFrom r (m
 abbrev pub answers : PlainRun → List Answer
 answers r = answersFrom r (opened r) (r .steps)
 
--- every answer of a store, on every list of steps, is the plain machine's
+-- every answer of a store, in every house that opening takes and on every list of steps, is the plain machine's
 abbrev pub SameAnswers : Store → Type 0
 SameAnswers p =
-    (c : Config) → validOf c ≡ true → (l : List Step) (k : ℕ) → answerAt (runOf p c l) k ≡ answerAt (runOf machine c l) k
+    (h : House) → houseFault h ≡ 0 → (l : List Step) (k : ℕ) → answerAt (runOf p h l) k ≡ answerAt (runOf machine h l) k
