@@ -3,7 +3,7 @@ use Rattle.quorums.specs.Sum.{sum, sumℤ, sumIn, size, all}
 use Rattle.quorums.specs.Tables.{run, table}
 use Rattle.quorums.specs.Difference.{difference}
 use Rattle.quorums.specs.Accounts.{weight, total, weightIn, margin, quorum, above}
-use Rattle.config.specs.Cluster.{validOf, startOf, totalOf, aboveOf, keeps, keptOf, stampBytes, mostStamp}
+use Rattle.config.specs.Cluster.{startOf, totalOf, aboveOf, keeps, keptOf, stampBytes, mostStamp}
 use Rattle.format.specs.Bytes.{bytes, number, series, stands, marks, bit}
 use Rattle.format.specs.Table.{registerMark, register, cellMap, cells, rowMark, row, rowMap, rows, sheet, fieldMap, fieldMapOf, head, note, encodeFields}
 use Rattle.machine.specs.Sets.{same, has, includes, missing, union, tally, count, cell, given, received, weightOf, quorumOf}
@@ -18,7 +18,7 @@ use Rattle.machine.specs.Views.{restartsMade, gain}
 unfoldable pub computing : Unit {0}
 unfolding inTurn answerAt at take onServer onDesk onCrash send transferBy shareBy serveBy answerRequest beginBy askBy hearBy restart choose mark
     resultBy dropBy marginBy join higher below union missing includes has same tally count cell given received weightOf marginOf quorumOf answered
-    bytesOf quorum margin weightIn weight total validOf startOf totalOf aboveOf above keptOf keeps table run stampBytes mostStamp sumℤ sum sumIn size
+    bytesOf quorum margin weightIn weight total startOf totalOf aboveOf above keptOf keeps table run stampBytes mostStamp sumℤ sum sumIn size
     all difference encodeFields bytes number series stands marks bit registerMark register cellMap cells rowMark row rowMap rows sheet fieldMap
     fieldMapOf head note hears heard restartsMade gain
 computing = tt
