@@ -1,4 +1,4 @@
--- Theorems: how runs compute; runs of the plain machine, and its numbers; then the wrong stores that come close (paper 01; paper 02, N1), each refuted.
+-- Theorems: how runs compute; runs of the plain machine, and its numbers; then the wrong stores that come close (paper 01; paper 02, N1 and N2), each refuted.
 pub mod Answers
 pub mod Computing
 pub mod Shown
@@ -14,3 +14,4 @@ pub mod NoRestarts
 pub mod Unequal
 pub mod SpentEarly
 pub mod HalfWeight
+pub mod LevelTotal

@@ -1,5 +1,5 @@
--- Definitions: how runs are written here, the parts that a store can change, and the wrong stores that come close: those of paper 01 in its order, and one
--- of paper 02, N1.
+-- Definitions: how runs are written here, the parts that a store can change, and the wrong stores that come close: those of paper 01 in its order, and
+-- those of paper 02, N1 and N2.
 pub mod Steps
 pub mod Parts
 pub mod SheetAlone
@@ -16,3 +16,4 @@ pub mod FixedTag
 pub mod NoRestarts
 pub mod HeadCount
 pub mod HalfWeight
+pub mod LevelTotal
