@@ -1,5 +1,5 @@
 -- What a call is given and what is kept of it: the same start weights, the same W, and the same number for what is wrong; and what a level house comes to.
-use Prim.Native.Nat.{ℕ, _+_, _-_, _*_, _≤_, _<_}
+use Prim.Native.Nat.{ℕ, _+_, _-_, _*_, _^_, _≤_, _<_}
 use native.Mathlib.Omega.{arith}
 use mathlib.Core.Path.{_≡_, refl, sym, ap, _∙_}
 use mathlib.Core.Logic.{⊎-elim}
@@ -12,13 +12,13 @@ use Rattle.quorums.specs.Difference.{difference}
 use Rattle.quorums.specs.Sum.{sum, all}
 use Rattle.quorums.specs.Accounts.{above}
 use Rattle.quorums.proofs.Sums.{sum-const, sum-rest, sum-same, all-each, each-all}
-use Rattle.quorums.proofs.Tables.{table-at}
+use Rattle.quorums.proofs.Tables.{table-at, table-length}
 use Rattle.quorums.proofs.Tests.{le-or-lt, one-test, both}
 use Rattle.quorums.proofs.Differences.{pos-difference}
 use Rattle.quorums.proofs.Weights.{above-is}
 use Rattle.config.specs.declared.cluster.Config.{Config}
 use Rattle.config.specs.Answers.{configAnswer}
-use Rattle.config.specs.Cluster.{House, noConfig, level, inBounds, validOf, startOf, totalOf, aboveOf, endsOf, startsAbove, lawfulOf, clusterFault, lawfulList, houseFault, keeps, keptOf, configOf}
+use Rattle.config.specs.Cluster.{House, Typed, noConfig, level, inBounds, validOf, startOf, totalOf, aboveOf, endsOf, startsAbove, lawfulOf, clusterFault, lawfulList, houseFault, keeps, keptOf, configOf}
 use Rattle.config.proofs.Clusters.{Lawful, valid-bounds, bounds-valid, lawful-told, told-lawful, start-above}
 
 -- entry i of the list, and W
@@ -156,12 +156,58 @@ pub house-taken : (h : House) (k : ℕ) (x : Config) → k ≡ houseFault h → 
 unfolding configAnswer
 house-taken h k x is zero kept = rw (kept, sym is, eq-eqb k 0 zero) refl
 
+-- ---- what a call can have
+
+zeros-typed : (n f : ℕ) → n < 2 ^ 64 → f < 2 ^ 64 → Typed (record { n = n; f = f; starts = replicate 16 0 })
+unfolding startOf
+zeros-typed n f a b =
+    record {
+      n-fits = a;
+      f-fits = b;
+      sixteen-starts = length-replicate {A = ℕ} 16 0;
+      start-fits =
+          λ i.
+          let none : getD {A = ℕ} (replicate 16 0) i 0 ≡ 0 =
+          ⊎-elim (λ (l : 16 ≤ i). List·getD-eq-default {A = ℕ} (replicate 16 0) 0 {n = i} (omega (arith, length-replicate {A = ℕ} 16 0))) (λ (l : i < 16). getD-replicate 16 i 0 0 l)
+          (le-or-lt 16 i) in
+          omega (arith, none);
+    }
+
+pub none-typed : Typed noConfig
+none-typed = zeros-typed 0 0 (omega arith) (omega arith)
+
+kept-typed : (h : House) → keeps (h .n) (h .starts) ≡ true → (i : ℕ) → startOf (configOf h) i ≤ 65535
+unfolding keeps startOf keptOf
+kept-typed h k i =
+    ⊎-elim
+    (λ (l : 16 ≤ i).
+    let past : getD (keptOf (h .n) (h .starts)) i 0 ≡ 0 = List·getD-eq-default (keptOf (h .n) (h .starts)) 0 (rw k (omega (arith, table-length 16 (entry h)))) in
+    omega (arith, past))
+    (λ (l : i < 16).
+    let each = both (leb (h .n) 16) _ (both (eqb (length (h .starts)) (h .n)) _ k .1) .1 in
+    let small : entry h i ≤ 16000 =
+    ⊎-elim (λ (b : h .n ≤ i). let past : entry h i ≡ 0 = List·getD-eq-default (h .starts) 0 (omega (arith, kept-told h k .long)) in omega (arith, past))
+    (λ (b : i < h .n). leb-true _ _ (all-each (h .n) (λ j. leb (entry h j) 16000) each i b))
+    (le-or-lt (h .n) i) in
+    omega (arith, start-kept h k i l, small))
+    (le-or-lt 16 i)
+
+-- whatever is given, what is kept of it is a cluster that a call can have
+pub given-typed : (h : House) → h .n < 2 ^ 64 → h .f < 2 ^ 64 → Typed (configOf h)
+unfolding keptOf
+given-typed h a b = by-keeps (keeps (h .n) (h .starts)) refl
+  where
+    by-keeps : (t : Bool) → keeps (h .n) (h .starts) ≡ t → Typed (configOf h)
+    by-keeps true k = record { n-fits = a; f-fits = b; sixteen-starts = rw k (table-length 16 (entry h)); start-fits = kept-typed h k }
+    by-keeps false k = rw k (zeros-typed (h .n) (h .f) a b)
+
 -- ---- a lawful house
 
 pub record Housed (h : House) : Type 0 where
   pub lawful : lawfulOf (configOf h) ≡ true
   pub list : Listed h
   pub starts : (i : ℕ) → i < 16 → startOf (configOf h) i ≡ getD (h .starts) i 0
+  pub total : totalOf (configOf h) ≡ sum (h .n) (λ i. getD (h .starts) i 0)
 
 pub house-told : (h : House) → houseFault h ≡ 0 → Housed h
 unfolding houseFault
@@ -171,7 +217,7 @@ house-told h e = by-bounds (inBounds (h .n) (h .f)) refl
     by-list true l v =
         let x = list-told h l in
         let k = told-kept h (record { long = x .long; few = leb-true _ _ (both (leb (h .n) 16) _ (both (leb 1 (h .n)) _ v .1) .0) }) (entry-small h (x .small)) in
-        record { lawful = given-lawful h v ∙ l; list = x; starts = start-kept h k }
+        record { lawful = given-lawful h v ∙ l; list = x; starts = start-kept h k; total = total-kept h k }
     by-list false l v = absurd (omega (arith, rw (v, l) at e))
 
     by-bounds : (t : Bool) → inBounds (h .n) (h .f) ≡ t → Housed h

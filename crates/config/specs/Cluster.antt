@@ -1,5 +1,6 @@
 -- The cluster's parameters, which are fixed at opening (paper 01, "Sheets": a house has n servers and a crash limit f; paper 02, N2: start weights by hall).
-use Prim.Native.Nat.{ℕ, _+_, _-_, _*_, _/_, _^_}
+use Prim.Native.Nat.{ℕ, _+_, _-_, _*_, _/_, _^_, _≤_, _<_}
+use mathlib.Core.Path.{_≡_}
 use mathlib.Core.Bool.{Bool, true, false, cond}
 use mathlib.Core.List.{List}
 use lib.Dec.{eqb, leb, ltb}
@@ -40,6 +41,13 @@ leastOf c = totalOf c / (2 * (c .n - c .f)) + 1
 -- whether the cluster is within bounds and i one of its servers
 unfoldable pub serverOf : Config → ℕ → Bool
 serverOf c i = cond (validOf c) (ltb i (c .n)) false
+
+-- A cluster that a call can have: n and f have 64 bits, and there are 16 start weights of 16 bits.
+pub record Typed (c : Config) : Type 0 where
+  pub n-fits : c .n < 2 ^ 64
+  pub f-fits : c .f < 2 ^ 64
+  pub sixteen-starts : length (c .starts) ≡ 16
+  pub start-fits : (i : ℕ) → startOf c i ≤ 65535
 
 -- ---- which start weights are lawful
 

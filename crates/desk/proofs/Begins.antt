@@ -132,8 +132,7 @@ begun-fits x kind value note w l e =
 begun-typed : (x : Desk) (kind : ℕ) (value : Value) (note : ℕ) → kind ≤ 65535 → TypedValue value → note ≤ 4294967295 → x .round < mostRound → Typed x
     → Typed (begun x kind value note)
 begun-typed x kind value note k v n r t = record {
-  n-fits = t .n-fits;
-  f-fits = t .f-fits;
+  config-typed = t .config-typed;
   number-fits = t .number-fits;
   replica-typed = t .replica-typed;
   round-fits = r;
@@ -175,8 +174,7 @@ pub drop-typed : (x : Desk) → Typed x → Typed (dropOf x .desk)
 drop-typed x t =
     drop-cases (λ (a : DeskAnswer). Typed (a .desk)) x (λ k. t)
     (λ m. record {
-      n-fits = t .n-fits;
-      f-fits = t .f-fits;
+      config-typed = t .config-typed;
       number-fits = t .number-fits;
       replica-typed = t .replica-typed;
       round-fits = t .round-fits;

@@ -6,7 +6,9 @@ use mathlib.Core.Bool.{Bool, true, false, cond, false≢true}
 use borrow.Author.Tests.{leb-true}
 use lib.Dec.{leb}
 use Rattle.quorums.proofs.Tests.{both}
-use Rattle.config.specs.Cluster.{configOf, validOf}
+use Rattle.config.specs.Cluster.{House, configOf, noConfig, houseFault, validOf, lawfulOf, Typed as TypedConfig}
+use Rattle.config.proofs.Clusters.{lawful-valid}
+use Rattle.config.proofs.Houses.{none-typed as no-config-typed, given-typed, house-told}
 use Rattle.config.specs.Refusals.{refusal}
 use Rattle.config.specs.declared.answer.Verdict.{Verdict}
 use Rattle.ledger.proofs.Checks.{accepted-not-refused}
@@ -43,7 +45,7 @@ pub sound-first : (x : Desk) → fits x ≡ cond (sound (x .config) (x .number) 
 unfolding fits sound
 sound-first x =
     by-tests (numberLawful (x .number)) (validOf (x .config)) (fitsReplica (x .config) (x .replica))
-    (fitsOperation (x .config) (x .round) (x .operation)) (λ e. replica-told (x .config) (x .replica) e .valid)
+    (fitsOperation (x .config) (x .round) (x .operation)) (λ e. lawful-valid (x .config) (replica-told (x .config) (x .replica) e .lawful))
   where
     by-tests : (n v r o : Bool) → (r ≡ true → v ≡ true) → cond n (cond r o false) false ≡ cond (cond n (cond v o false) false) r false
     by-tests true true true true h = refl
@@ -71,8 +73,11 @@ fits-sound x e = both _ _ (sym (sound-first x) ∙ e) .0
 
 -- its cluster is one, and its number is a desk's
 
+pub fits-lawful : (x : Desk) → fits x ≡ true → lawfulOf (x .config) ≡ true
+fits-lawful x e = replica-told (x .config) (x .replica) (fits-told x e .replica-fits) .lawful
+
 pub fits-valid : (x : Desk) → fits x ≡ true → validOf (x .config) ≡ true
-fits-valid x e = replica-told (x .config) (x .replica) (fits-told x e .replica-fits) .valid
+fits-valid x e = lawful-valid (x .config) (fits-lawful x e)
 
 pub number-told : (d : ℕ) → numberLawful d ≡ true → (1 ≤ d) × (d ≤ 65535)
 unfolding numberLawful
@@ -85,38 +90,41 @@ running-round c round o e m = running-later (o .mode) round (operation-told c ro
 -- ---- a fresh desk
 
 -- what `open` answers
-abbrev opened : ℕ → ℕ → ℕ → Bool → DeskAnswer
-opened n f d b = cond b (accepted (freshDesk (configOf n f) d)) (refused (refusal 1) blankDesk)
+abbrev opened : House → ℕ → Bool → Bool → DeskAnswer
+opened h d b l = cond b (cond l (accepted (freshDesk (configOf h) d)) (refused (refusal 15) blankDesk)) (refused (refusal 1) blankDesk)
 
 opens-told : (c : Config) (d : ℕ) → opens c d ≡ true → (numberLawful d ≡ true) × (validOf c ≡ true)
 unfolding opens
 opens-told c d e = both (numberLawful d) (validOf c) e
 
-pub open-fits : (n f d : ℕ) → openOf n f d .verdict ≡ Verdict.Accepted → fits (openOf n f d .desk) ≡ true
+pub open-fits : (h : House) (d : ℕ) → openOf h d .verdict ≡ Verdict.Accepted → fits (openOf h d .desk) ≡ true
 unfolding openOf
-open-fits n f d e = by-test (opens (configOf n f) d) refl e
+open-fits h d e = by-tests (opens (configOf h) d) (lawfulOf (configOf h)) refl refl e
   where
-    by-test : (b : Bool) → opens (configOf n f) d ≡ b → opened n f d b .verdict ≡ Verdict.Accepted → fits (opened n f d b .desk) ≡ true
-    by-test true o t =
-        let h = opens-told (configOf n f) d o in
-        told-fits (freshDesk (configOf n f) d)
-        (record { number-in = h .0; replica-fits = fresh-fits (configOf n f) (h .1); operation-fits = none-fits (configOf n f) 0 (h .1) })
-    by-test false o t = accepted-not-refused _ (sym t)
+    by-tests : (b l : Bool) → opens (configOf h) d ≡ b → lawfulOf (configOf h) ≡ l → opened h d b l .verdict ≡ Verdict.Accepted → fits (opened h d b l .desk) ≡ true
+    by-tests true true o v t =
+        let k = opens-told (configOf h) d o in
+        told-fits (freshDesk (configOf h) d)
+        (record { number-in = k .0; replica-fits = fresh-fits (configOf h) v; operation-fits = none-fits (configOf h) 0 (k .1) })
+    by-tests true false o v t = accepted-not-refused _ (sym t)
+    by-tests false l o v t = accepted-not-refused _ (sym t)
 
-pub open-typed : (n f d : ℕ) → n < 2 ^ 64 → f < 2 ^ 64 → d < 2 ^ 64 → Typed (openOf n f d .desk)
+pub open-typed : (h : House) (d : ℕ) → h .n < 2 ^ 64 → h .f < 2 ^ 64 → d < 2 ^ 64 → Typed (openOf h d .desk)
 unfolding openOf
-open-typed n f d p q r = by-test (opens (configOf n f) d)
+open-typed h d p q r = by-tests (opens (configOf h) d) (lawfulOf (configOf h))
   where
-    fresh : (m k i : ℕ) → m < 2 ^ 64 → k < 2 ^ 64 → i < 2 ^ 64 → Typed (freshDesk (configOf m k) i)
-    fresh m k i a b c = record {
-      n-fits = a;
-      f-fits = b;
-      number-fits = c;
-      replica-typed = fresh-typed;
-      round-fits = omega arith;
-      operation-typed = none-typed;
-    }
+    fresh : (c : Config) (i : ℕ) → TypedConfig c → i < 2 ^ 64 → Typed (freshDesk c i)
+    fresh c i t k =
+        record { config-typed = t; number-fits = k; replica-typed = fresh-typed; round-fits = omega arith; operation-typed = none-typed }
 
-    by-test : (b : Bool) → Typed (opened n f d b .desk)
-    by-test true = fresh n f d p q r
-    by-test false = fresh 0 0 0 (omega arith) (omega arith) (omega arith)
+    by-tests : (b l : Bool) → Typed (opened h d b l .desk)
+    by-tests true true = fresh (configOf h) d (given-typed h p q) r
+    by-tests true false = fresh noConfig 0 no-config-typed (omega arith)
+    by-tests false l = fresh noConfig 0 no-config-typed (omega arith)
+
+-- a desk of a lawful house is opened
+pub open-lawful : (h : House) (d : ℕ) → houseFault h ≡ 0 → numberLawful d ≡ true → openOf h d ≡ accepted (freshDesk (configOf h) d)
+unfolding openOf opens
+open-lawful h d e k =
+    let v = house-told h e .lawful in
+    rw (k, lawful-valid (configOf h) v, v) refl

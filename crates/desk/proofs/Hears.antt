@@ -66,7 +66,7 @@ module _ (x : Desk) (p : Replica) (e : fits x ≡ true) (h : fitsReplica (x .con
       let g = chosen-fits x (p .register) e n (t .register-fits) in
       kept (record { ledger = p .ledger; register = chosenOf x (p .register) }) (suc (x .round)) (inPhaseTwo (x .operation) (chosenOf x (p .register)))
       (told-replica (x .config) (record { ledger = p .ledger; register = chosenOf x (p .register) })
-      (record { valid = t .valid; ledger-bounded = t .ledger-bounded; ledger-above = t .ledger-above; register-fits = g }))
+      (record { lawful = t .lawful; ledger-bounded = t .ledger-bounded; ledger-above = t .ledger-above; register-fits = g }))
       (record {
         mode-in = mode-later running (suc (x .round)) (omega arith) (omega arith);
         kind-in = kind-fits running (x .operation .kind) (kind-told (x .operation .mode) (x .operation .kind) (before .kind-in) m);
@@ -131,8 +131,7 @@ module _ (x : Desk) (p : Replica) (t : Typed x) (e : fits x ≡ true) (s : Typed
   -- the desk with another pair, round and operation
   held : (q : Replica) (k : ℕ) (o : Operation) → TypedReplica q → k ≤ 4294967295 → TypedOperation o → Typed (moved x q k o)
   held q k o r l d = record {
-    n-fits = t .n-fits;
-    f-fits = t .f-fits;
+    config-typed = t .config-typed;
     number-fits = t .number-fits;
     replica-typed = r;
     round-fits = l;

@@ -12,7 +12,8 @@ use lib.Signed.{ltZ}
 use Rattle.quorums.specs.Difference.{difference}
 use Rattle.quorums.proofs.Tests.{chosen-first}
 use Rattle.quorums.proofs.Margins.{missing-one, nobody-quorum}
-use Rattle.config.specs.Cluster.{configOf}
+use Rattle.config.specs.Cluster.{House, configOf, lawfulOf}
+use Rattle.config.proofs.Clusters.{lawful-valid}
 use Rattle.config.specs.Refusals.{refusal}
 use Rattle.config.specs.declared.cluster.Config.{Config}
 use Rattle.config.specs.declared.answer.Signed.{Signed}
@@ -55,7 +56,7 @@ pub told-within : (x : Desk) (y : ℤ) → marginOf x ≡ Signed.Value y → Wit
 told-within x y e =
     let t = margin-told x y e in
     let held = holds-told (x .config) (x .replica) (fits-told x (t .sound) .replica-fits) in
-    rw (t .is) (margin-within (x .config) (x .replica .ledger) (x .operation .answered) (held .valid) (held .ledger-bounded) (held .ledger-above))
+    rw (t .is) (margin-within (x .config) (x .replica .ledger) (x .operation .answered) (lawful-valid (x .config) (held .lawful)) (held .ledger-bounded) (held .ledger-above))
 
 -- Where it is −y, one server more that answers on the desk's sheet makes a quorum exactly when it weighs more than y / 2, rounded down: the weight still
 -- missing is that and one more.
@@ -78,13 +79,14 @@ nobody c l = nobody-quorum (c .n) (accountsOf c l) (named 0) (λ i h. below-name
 
 -- A record that was opened and has been through calls only is such a one, whatever bytes it heard.
 
-pub open-waits : (n f d : ℕ) → Waits (openOf n f d .desk)
+pub open-waits : (h : House) (d : ℕ) → Waits (openOf h d .desk)
 unfolding openOf
-open-waits n f d = by-test (opens (configOf n f) d)
+open-waits h d = by-tests (opens (configOf h) d) (lawfulOf (configOf h))
   where
-    by-test : (b : Bool) → Waits (cond b (accepted (freshDesk (configOf n f) d)) (refused (refusal 1) blankDesk) .desk)
-    by-test true = λ m. let z : _≡_ {A = ℕ} 0 1 = m in absurd (omega arith)
-    by-test false = λ m. let z : _≡_ {A = ℕ} 0 1 = m in absurd (omega arith)
+    by-tests : (b l : Bool) → Waits (cond b (cond l (accepted (freshDesk (configOf h) d)) (refused (refusal 15) blankDesk)) (refused (refusal 1) blankDesk) .desk)
+    by-tests true true = λ m. let z : _≡_ {A = ℕ} 0 1 = m in absurd (omega arith)
+    by-tests true false = λ m. let z : _≡_ {A = ℕ} 0 1 = m in absurd (omega arith)
+    by-tests false l = λ m. let z : _≡_ {A = ℕ} 0 1 = m in absurd (omega arith)
 
 pub begin-waits : (x : Desk) (kind : ℕ) (v : List ℕ) (note : ℕ) → Waits x → Waits (beginOf x kind v note .desk)
 begin-waits x kind v note w =

@@ -4,6 +4,7 @@ use Prim.Native.Nat.{ℕ}
 use mathlib.Core.Path.{_≡_}
 use mathlib.Core.Logic.{_↔_}
 use mathlib.Core.Bool.{true}
+use Rattle.config.proofs.Clusters.{lawful-valid}
 use Rattle.quorums.specs.Published.{WeightedMajority, RpIntegrity}
 use Rattle.ledger.specs.Ledgers.{accountsOf}
 use Rattle.ledger.specs.Maps.{named}
@@ -22,7 +23,7 @@ held x e = holds-told (x .config) (x .replica) (fits-told x e .replica-fits)
 pub ledger-majority : (x : Desk) (m : ℕ) → fits x ≡ true
     → (quorumOf (x .config) (x .replica .ledger) m ≡ true)
     ↔ WeightedMajority (x .config .n) (accountsOf (x .config) (x .replica .ledger)) (named m)
-ledger-majority x m e = let t = held x e in quorum-majority (x .config) (x .replica .ledger) m (t .valid) (t .ledger-bounded)
+ledger-majority x m e = let t = held x e in quorum-majority (x .config) (x .replica .ledger) m (lawful-valid (x .config) (t .lawful)) (t .ledger-bounded)
 
 -- Definition 5, RP-Integrity: every weight on the ledger is above W / (2(n − f)).
 pub ledger-integrity : (x : Desk) → fits x ≡ true → RpIntegrity (x .config .n) (x .config .f) (accountsOf (x .config) (x .replica .ledger))

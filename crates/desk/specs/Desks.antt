@@ -2,7 +2,8 @@
 use Prim.Native.Nat.{ℕ, _≤_, _<_, _^_}
 use mathlib.Core.Bool.{Bool, false, cond}
 use lib.Dec.{leb}
-use Rattle.config.specs.Cluster.{configOf, validOf}
+use Rattle.config.specs.Cluster.{House, configOf, noConfig, validOf, Typed as TypedConfig}
+use Rattle.config.specs.Answers.{judged}
 use Rattle.config.specs.declared.cluster.Config.{Config}
 use Rattle.config.specs.declared.answer.Refusal.{Refusal}
 use Rattle.config.specs.Refusals.{refusal}
@@ -20,12 +21,13 @@ numberLawful d = cond (leb 1 d) (leb d 65535) false
 abbrev pub mostRound : ℕ
 mostRound = 4294967295
 
--- The record test (paper 01, "Numbers handed out", 1): n and f, the number, the field ranges, the operation, and no light sheet.
+-- The record test (paper 01, "Numbers handed out", 1; paper 02, N2): n and f, the start weights, the number, the field ranges, the operation, and no light
+-- sheet.
 unfoldable pub fits : Desk → Bool
 fits x =
     cond (numberLawful (x .number)) (cond (fitsReplica (x .config) (x .replica)) (fitsOperation (x .config) (x .round) (x .operation)) false) false
 
--- What of that test is not about the pair: the number, n and f, and the operation.
+-- What of that test is not about the pair and the start weights: the number, n and f, and the operation.
 unfoldable pub sound : Config → ℕ → ℕ → Operation → Bool
 sound c d round o = cond (numberLawful d) (cond (validOf c) (fitsOperation c round o) false) false
 
@@ -46,20 +48,19 @@ abbrev pub freshDesk : Config → ℕ → Desk
 freshDesk c d = record { config = c; number = d; replica = freshReplica; round = 0; operation = noOperation }
 
 abbrev pub blankDesk : Desk
-blankDesk = freshDesk (configOf 0 0) 0
+blankDesk = freshDesk noConfig 0
 
--- whether d is a desk's number and the cluster within bounds
+-- whether d is a desk's number, and n and f are within bounds
 unfoldable pub opens : Config → ℕ → Bool
 opens c d = cond (numberLawful d) (validOf c) false
 
--- Open: a fresh record, or 1.
-unfoldable pub openOf : ℕ → ℕ → ℕ → DeskAnswer
-openOf n f d = cond (opens (configOf n f) d) (accepted (freshDesk (configOf n f) d)) (refused (refusal 1) blankDesk)
+-- Open: a fresh record; 1 for n, f and the number, then 15 for the start weights.
+unfoldable pub openOf : House → ℕ → DeskAnswer
+openOf h d = judged (opens (configOf h) d) (configOf h) (accepted (freshDesk (configOf h) d)) (λ k. refused k blankDesk)
 
 -- A record that a call can have: arrays have their lengths, and each number fits its type.
 pub record Typed (x : Desk) : Type 0 where
-  pub n-fits : x .config .n < 2 ^ 64
-  pub f-fits : x .config .f < 2 ^ 64
+  pub config-typed : TypedConfig (x .config)
   pub number-fits : x .number < 2 ^ 64
   pub replica-typed : TypedReplica (x .replica)
   pub round-fits : x .round ≤ 4294967295

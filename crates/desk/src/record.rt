@@ -7,6 +7,7 @@ use replica::Register;
 use replica::Replica;
 use replica::fits_lent;
 ghost use mathlib.Core.Path.{_≡_};
+ghost use Rattle.config.specs.Cluster.{houseOf};
 ghost use Rattle.desk.specs.Parts.{deskOf};
 ghost use Rattle.desk.specs.Desks.{numberLawful, fits as fitsOf, sound, freshDesk, opens as opensOf, openOf, refused as refusedOf};
 
@@ -39,14 +40,19 @@ pub struct Heard {
 }
 
 impl Desk {
-    // A fresh record for desk `number` of a cluster of n servers, of which f may crash: 1, and a record with every field 0, where they are out of bounds.
-    pub fn open(n: u64, f: u64, number: u64) -> DeskAnswer
-        ensures { λ r. ⌜ r ≡ openOf n f number ⌝ }
+    // A fresh record for desk `number` of a cluster of n servers, of which f may crash and which start with the weights listed: 1 where n, f or the number is
+    // out of bounds, then 15 where the list is not lawful; and a record with every field 0.
+    pub fn open(n: u64, f: u64, number: u64, starts: &[u64]) -> DeskAnswer
+        ensures { λ r. ⌜ r ≡ openOf (houseOf n f (now (starts .entry))) number ⌝ }
     {
-        let config = Config::of(n, f);
+        let config = Config::given(n, f, starts);
         if !opens(config, number) {
-            let blank = Desk::fresh(Config::of(0, 0), 0);
+            let blank = Desk::fresh(Config::none(), 0);
             return blank.refused(Refusal::BadHouse);
+        }
+        if !config.lawful() {
+            let blank = Desk::fresh(Config::none(), 0);
+            return blank.refused(Refusal::BadStart);
         }
         DeskAnswer {
             verdict: Verdict::Accepted,
@@ -95,7 +101,7 @@ impl Desk {
     }
 }
 
-// Whether a number is a desk's and the cluster within bounds.
+// Whether a number is a desk's, and n and f are within bounds.
 fn opens(config: Config, number: u64) -> bool
     ensures { λ r. ⌜ r ≡ opensOf config number ⌝ }
 {
@@ -133,7 +139,7 @@ pub(crate) fn fits_in<'a>(
     fits_lent(counts, cells, register, config)
 }
 
-// What of the record test is not about the replica: the number, the cluster and the operation.
+// What of the record test is not about the replica and the start weights: the number, n and f, and the operation.
 pub(crate) fn sound_in(config: Config, number: u64, round: u32, operation: Operation) -> bool
     ensures { λ r. ⌜ r ≡ sound config number round operation ⌝ }
 {

@@ -24,7 +24,7 @@ use Rattle.ledger.specs.declared.ledger.Changed.{Changed}
 use Rattle.ledger.specs.Ledgers.{countOf, cellOf, givenOf, receivedOf, accountsOf, refused, accepted, Typed}
 use Rattle.ledger.specs.Weights.{weightOf}
 use Rattle.ledger.specs.Checks.{rowFits, serverAbove, bounded, aboveFloor, fits}
-use Rattle.ledger.specs.Changes.{lawful, mostCount, spares, added, giveVerdict, giveAnswer, addAnswer}
+use Rattle.ledger.specs.Changes.{lawful, mostCount, spares, added, giveVerdict, giveAnswer, heldAnswer}
 use Rattle.ledger.proofs.Totals.{bounded-told, total-fits-told, received-given}
 use Rattle.ledger.proofs.Majorities.{each-above}
 use Rattle.ledger.proofs.Checks.{accepted-not-refused, ledger-told, told-ledger}
@@ -125,7 +125,7 @@ added-kept c l i j d t v hi w b a p =
       added-above c l i j d t (small .0) (small .1) most (k .0) a p,
     )
 
--- ---- what `add` hands back
+-- ---- what `add` hands back, of a party's ledger
 
 -- the tests that a transfer passes
 pub record Adds (c : Config) (l : Ledger) (i j d : ℕ) : Type 0 where
@@ -138,36 +138,36 @@ pub record Adds (c : Config) (l : Ledger) (i j d : ℕ) : Type 0 where
 
 -- an answer is that of a transfer that has passed them, or a refusal beside the ledger as it was
 add-cases : (P : Changed → Type 0) (c : Config) (l : Ledger) (i j d : ℕ) → (Adds c l i j d → P (accepted (added l i j d))) → ((k : Refusal) → P (refused k l))
-    → P (addAnswer c l i j d)
-unfolding addAnswer giveAnswer
+    → P (heldAnswer c l i j d)
+unfolding heldAnswer giveAnswer
 add-cases P c l i j d done left =
     by-tests (serverOf c i) (lawfulOf c) (fits c l) (lawful c i j d) (ltb (countOf l i) mostCount) (spares c l i d) refl refl refl refl refl refl
   where
     by-tests : (o s f w t p : Bool) → serverOf c i ≡ o → lawfulOf c ≡ s → fits c l ≡ f → lawful c i j d ≡ w → ltb (countOf l i) mostCount ≡ t → spares c l i d ≡ p
-        → P (cond o (cond s (cond f (cond w (cond t (cond p (accepted (added l i j d)) (refused (refusal 10) l)) (refused (refusal 12) l)) (refused (refusal 11) l)) (refused (refusal 1) l)) (refused (refusal 15) l)) (refused (refusal 1) l))
+        → P (cond o (cond s (cond f (cond w (cond t (cond p (accepted (added l i j d)) (refused (refusal 10) l)) (refused (refusal 12) l)) (refused (refusal 11) l)) (refused (refusal 1) l)) (refused (refusal 1) l)) (refused (refusal 1) l))
     by-tests true true true true true true a v b e k g = done (record { one-of = a; house = v; sound = b; legal = e; counted = ltb-true _ _ k; spared = g })
     by-tests true true true true true false a v b e k g = left (refusal 10)
     by-tests true true true true false p a v b e k g = left (refusal 12)
     by-tests true true true false t p a v b e k g = left (refusal 11)
     by-tests true true false w t p a v b e k g = left (refusal 1)
-    by-tests true false f w t p a v b e k g = left (refusal 15)
+    by-tests true false f w t p a v b e k g = left (refusal 1)
     by-tests false s f w t p a v b e k g = left (refusal 1)
 
 module _ (c : Config) (l : Ledger) (i j d : ℕ) where
   -- so an accepted transfer has passed them and is added
-  pub add-told : addAnswer c l i j d .verdict ≡ Verdict.Accepted → Adds c l i j d × (addAnswer c l i j d .ledger ≡ added l i j d)
+  pub add-told : heldAnswer c l i j d .verdict ≡ Verdict.Accepted → Adds c l i j d × (heldAnswer c l i j d .ledger ≡ added l i j d)
   add-told =
       add-cases (λ x. x .verdict ≡ Verdict.Accepted → Adds c l i j d × (x .ledger ≡ added l i j d)) c l i j d (λ g e. (g, refl))
       (λ k e. accepted-not-refused k (sym e))
 
   -- and a refused one leaves the ledger as it was
-  pub add-left : (r : Refusal) → addAnswer c l i j d .verdict ≡ Verdict.Refused r → addAnswer c l i j d .ledger ≡ l
+  pub add-left : (r : Refusal) → heldAnswer c l i j d .verdict ≡ Verdict.Refused r → heldAnswer c l i j d .ledger ≡ l
   add-left r =
       add-cases (λ x. x .verdict ≡ Verdict.Refused r → x .ledger ≡ l) c l i j d (λ g e. accepted-not-refused r e) (λ k e. refl)
 
   -- on a ledger that fits the verdict is that of the tests of a transfer
-  pub add-gives : serverOf c i ≡ true → lawfulOf c ≡ true → fits c l ≡ true → giveVerdict c i j d (countOf l i) (spares c l i d) ≡ addAnswer c l i j d .verdict
-  unfolding addAnswer giveAnswer giveVerdict
+  pub add-gives : serverOf c i ≡ true → lawfulOf c ≡ true → fits c l ≡ true → giveVerdict c i j d (countOf l i) (spares c l i d) ≡ heldAnswer c l i j d .verdict
+  unfolding heldAnswer giveAnswer giveVerdict
   add-gives o v f = rw (o, v, f) (by-tests (lawful c i j d) (ltb (countOf l i) mostCount) (spares c l i d))
     where
       by-tests : (w t p : Bool)
@@ -179,7 +179,7 @@ module _ (c : Config) (l : Ledger) (i j d : ℕ) where
       by-tests false t p = refl
 
 -- A ledger that fits still does, whatever is asked.
-pub add-fits : (c : Config) (l : Ledger) (i j d : ℕ) → Typed l → fits c l ≡ true → fits c (addAnswer c l i j d .ledger) ≡ true
+pub add-fits : (c : Config) (l : Ledger) (i j d : ℕ) → Typed l → fits c l ≡ true → fits c (heldAnswer c l i j d .ledger) ≡ true
 add-fits c l i j d t f = add-cases (λ x. fits c (x .ledger) ≡ true) c l i j d given (λ k. f)
   where
     given : Adds c l i j d → fits c (added l i j d) ≡ true
@@ -190,7 +190,7 @@ add-fits c l i j d t f = add-cases (λ x. fits c (x .ledger) ≡ true) c l i j d
         told-ledger c (added l i j d) (k .0) (k .1)
 
 -- And it is still one that a call can have.
-pub add-typed : (c : Config) (l : Ledger) (i j d : ℕ) → Typed l → Typed (addAnswer c l i j d .ledger)
+pub add-typed : (c : Config) (l : Ledger) (i j d : ℕ) → Typed l → Typed (heldAnswer c l i j d .ledger)
 add-typed c l i j d t = add-cases (λ x. Typed (x .ledger)) c l i j d given (λ k. t)
   where
     given : Adds c l i j d → Typed (added l i j d)

@@ -4,7 +4,7 @@ use mathlib.Core.Bool.{Bool, false, cond}
 use lib.Dec.{leb, ltb, eqb}
 use lib.IntN.{pos, _-ℤ_}
 use lib.ListN.{set}
-use Rattle.config.specs.Cluster.{serverOf, aboveOf}
+use Rattle.config.specs.Cluster.{serverOf, lawfulOf, aboveOf}
 use Rattle.config.specs.Answers.{judged}
 use Rattle.config.specs.declared.cluster.Config.{Config}
 use Rattle.config.specs.Refusals.{refusal}
@@ -47,7 +47,12 @@ giveVerdict c i j d count spared =
     cond (lawful c i j d) (cond (ltb count mostCount) (cond spared Verdict.Accepted (Verdict.Refused (refusal 10))) (Verdict.Refused (refusal 12)))
     (Verdict.Refused (refusal 11))
 
--- What the call answers: 1 for n and f and for a giver that there isn't, 15 for bad start weights, 1 for a ledger that is out of range or light, then 11, 12,
--- 10, or the ledger with the transfer.
+-- One transfer more in the ledger of a party's record, where what is wrong with the cluster, the giver or the ledger is all 1; then 11, 12, 10, or the ledger
+-- with the transfer.
+unfoldable pub heldAnswer : Config → Ledger → ℕ → ℕ → ℕ → Changed
+heldAnswer c l i j d =
+    cond (serverOf c i) (cond (lawfulOf c) (cond (fits c l) (giveAnswer c l i j d) (refused (refusal 1) l)) (refused (refusal 1) l)) (refused (refusal 1) l)
+
+-- What the call answers that is given a cluster and a ledger: 1 for n and f and for a giver that there isn't, 15 for bad start weights, and then the same.
 unfoldable pub addAnswer : Config → Ledger → ℕ → ℕ → ℕ → Changed
-addAnswer c l i j d = judged (serverOf c i) c (cond (fits c l) (giveAnswer c l i j d) (refused (refusal 1) l)) (λ k. refused k l)
+addAnswer c l i j d = judged (serverOf c i) c (heldAnswer c l i j d) (λ k. refused k l)

@@ -12,7 +12,7 @@ ghost use lib.Dec.{leb};
 ghost use lib.ListN.{length, getD, set};
 ghost use Rattle.config.specs.Cluster.{startOf};
 ghost use Rattle.ledger.specs.Ledgers.{ledgerOf};
-ghost use Rattle.ledger.specs.Changes.{lawful as lawfulOf, giveVerdict, addAnswer};
+ghost use Rattle.ledger.specs.Changes.{lawful as lawfulOf, giveVerdict, heldAnswer, addAnswer};
 
 // The last number of a giver's transfers.
 const MOST_COUNT: u16 = 65535;
@@ -24,6 +24,12 @@ impl Ledger {
     pub fn add(self, config: Config, giver: u64, taker: u64, amount: u64) -> Changed
         ensures { λ r. ⌜ r ≡ addAnswer config self giver taker amount ⌝ }
     {
+        if !config.has(giver) {
+            return self.refused(Refusal::BadHouse);
+        }
+        if !config.lawful() {
+            return self.refused(Refusal::BadStart);
+        }
         let mut counts = self.counts;
         let mut cells = self.cells;
         let verdict = add_lent(&mut counts, &mut cells, config, giver, taker, amount);
@@ -34,7 +40,8 @@ impl Ledger {
     }
 }
 
-// `add` on a ledger that is lent as its counts and cells, wherever it lies: they are changed there, or left as they were where the verdict is a refusal.
+// `add` on the ledger of a party's record, lent as its counts and cells, wherever it lies: they are changed there, or left as they were where the verdict is a
+// refusal. What is wrong with the cluster or the ledger is 1, bad start weights too.
 pub fn add_lent(
     counts: &mut [u16; 16],
     cells: &mut [u32; 256],
@@ -43,7 +50,7 @@ pub fn add_lent(
     taker: u64,
     amount: u64,
 ) -> Verdict
-    ensures { λ r. ⌜ (r ≡ addAnswer config (ledgerOf (now (counts .entry)) (now (cells .entry))) giver taker amount .verdict) × (now (counts .exit) ≡ addAnswer config (ledgerOf (now (counts .entry)) (now (cells .entry))) giver taker amount .ledger .counts) × (now (cells .exit) ≡ addAnswer config (ledgerOf (now (counts .entry)) (now (cells .entry))) giver taker amount .ledger .cells) ⌝ }
+    ensures { λ r. ⌜ (r ≡ heldAnswer config (ledgerOf (now (counts .entry)) (now (cells .entry))) giver taker amount .verdict) × (now (counts .exit) ≡ heldAnswer config (ledgerOf (now (counts .entry)) (now (cells .entry))) giver taker amount .ledger .counts) × (now (cells .exit) ≡ heldAnswer config (ledgerOf (now (counts .entry)) (now (cells .entry))) giver taker amount .ledger .cells) ⌝ }
 {
     match may_add(&*counts, &*cells, config, giver, taker, amount) {
         Verdict::Accepted => {
@@ -74,13 +81,13 @@ fn may_add(
     amount: u64,
 ) -> Verdict
     requires { ⌜ (length (now counts) ≡ 16) × (length (now cells) ≡ 256) ⌝ }
-    ensures { λ r. ⌜ r ≡ addAnswer config (ledgerOf (now (counts .entry)) (now (cells .entry))) giver taker amount .verdict ⌝ }
+    ensures { λ r. ⌜ r ≡ heldAnswer config (ledgerOf (now (counts .entry)) (now (cells .entry))) giver taker amount .verdict ⌝ }
 {
     if !config.has(giver) {
         return Verdict::Refused(Refusal::BadHouse);
     }
     let Number::Value(least) = config.least() else {
-        return Verdict::Refused(Refusal::BadStart);
+        return Verdict::Refused(Refusal::BadHouse);
     };
     let mut received: [u64; 16] = [0; 16];
     let mut given: [u64; 16] = [0; 16];

@@ -5,11 +5,11 @@ use mathlib.Core.Path.{_≡_, sym, ap, ap₂, _∙_}
 use mathlib.Core.Bool.{Bool, true, false, cond}
 use mathlib.Core.List.{List}
 use lib.Dec.{eqb}
-use Rattle.config.specs.Cluster.{lawfulOf}
+use Rattle.config.specs.Cluster.{validOf}
 use Rattle.config.specs.Refusals.{refusal}
 use Rattle.config.specs.declared.cluster.Config.{Config}
 use Rattle.config.specs.declared.answer.Verdict.{Verdict}
-use Rattle.config.proofs.Clusters.{lawful-bounds}
+use Rattle.config.proofs.Clusters.{valid-bounds}
 use Rattle.ledger.specs.declared.ledger.Ledger.{Ledger}
 use Rattle.replica.specs.declared.register.Register.{Register}
 use Rattle.replica.specs.Parts.{replicaOf}
@@ -50,11 +50,11 @@ module _ (c : Config) (msg : List ℕ) (t : Taken) (l : Ledger) (d : t ≡ taken
   taken-passed b a = rw (taken-envelope, taken-replica a) (receive-told c msg b (sym taken-verdict ∙ a))
 
 -- a server that is read is below n
-server-found : (c : Config) (msg : List ℕ) → lawfulOf c ≡ true → scanOf c msg .envelope .server < 16
+server-found : (c : Config) (msg : List ℕ) → validOf c ≡ true → scanOf c msg .envelope .server < 16
 unfolding scanOf headOf
-server-found c msg valid = omega (arith, number-most msg 1 1 0 (c .n - 1) (readKind msg (readMap msg)), lawful-bounds c valid .most)
+server-found c msg valid = omega (arith, number-most msg 1 1 0 (c .n - 1) (readKind msg (readMap msg)), valid-bounds c valid .most)
 
-pub taken-server : (c : Config) (msg : List ℕ) → lawfulOf c ≡ true → takenOf c msg .envelope .server < 16
+pub taken-server : (c : Config) (msg : List ℕ) → validOf c ≡ true → takenOf c msg .envelope .server < 16
 unfolding takenOf receiveOf
 taken-server c msg valid = by-test (eqb (check c msg) 0)
   where

@@ -4,6 +4,7 @@ use Prim.Native.Nat.{ℕ, _<_}
 use mathlib.Core.Path.{_≡_, sym, ap}
 use mathlib.Core.Logic.{_↔_}
 use mathlib.Core.Bool.{true}
+use Rattle.config.proofs.Clusters.{lawful-valid}
 use Rattle.quorums.specs.Published.{WeightedMajority, RpIntegrity, Line12}
 use Rattle.quorums.proofs.Tests.{fails}
 use Rattle.config.specs.Cluster.{totalOf}
@@ -54,7 +55,7 @@ transfer-thin s j d e w h n =
 pub ledger-majority : (s : Server) (m : ℕ) → fits s ≡ true
     → (quorumOf (s .config) (s .replica .ledger) m ≡ true)
     ↔ WeightedMajority (s .config .n) (accountsOf (s .config) (s .replica .ledger)) (named m)
-ledger-majority s m e = let t = standing s e in quorum-majority (s .config) (s .replica .ledger) m (t .valid) (t .held .ledger-bounded)
+ledger-majority s m e = let t = standing s e in quorum-majority (s .config) (s .replica .ledger) m (lawful-valid (s .config) (t .lawful-house)) (t .held .ledger-bounded)
 
 -- Definition 5, RP-Integrity: every weight on the ledger is above W / (2(n − f)).
 pub ledger-integrity : (s : Server) → fits s ≡ true → RpIntegrity (s .config .n) (s .config .f) (accountsOf (s .config) (s .replica .ledger))

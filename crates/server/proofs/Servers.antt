@@ -4,10 +4,11 @@ use native.Mathlib.Omega.{arith}
 use mathlib.Core.Path.{_≡_, refl, sym}
 use mathlib.Core.Bool.{Bool, true, false, cond}
 use Rattle.quorums.proofs.Tests.{both}
-use Rattle.config.specs.Cluster.{configOf, serverOf}
+use Rattle.config.specs.Cluster.{House, configOf, houseFault, serverOf, lawfulOf}
 use Rattle.config.specs.Refusals.{refusal}
 use Rattle.config.specs.declared.answer.Verdict.{Verdict}
-use Rattle.config.proofs.Clusters.{server-valid}
+use Rattle.config.proofs.Clusters.{lawful-valid, valid-server}
+use Rattle.config.proofs.Houses.{none-typed, given-typed, house-told}
 use Rattle.ledger.proofs.Checks.{accepted-not-refused}
 use Rattle.replica.specs.Replicas.{fits as fitsReplica}
 use Rattle.replica.proofs.Replicas.{fresh-typed, fresh-fits}
@@ -40,21 +41,33 @@ fits-replica s o = rw o refl
 -- ---- a server that is opened
 
 -- what `open` answers
-abbrev opened : ℕ → ℕ → ℕ → Bool → ServerAnswer
-opened n f i b = cond b (accepted (freshServer (configOf n f) i)) (refused (refusal 1) blankServer)
+abbrev opened : House → ℕ → Bool → Bool → ServerAnswer
+opened h i b l = cond b (cond l (accepted (freshServer (configOf h) i)) (refused (refusal 15) blankServer)) (refused (refusal 1) blankServer)
 
-pub open-fits : (n f i : ℕ) → openOf n f i .verdict ≡ Verdict.Accepted → fits (openOf n f i .server) ≡ true
+pub open-fits : (h : House) (i : ℕ) → openOf h i .verdict ≡ Verdict.Accepted → fits (openOf h i .server) ≡ true
 unfolding openOf
-open-fits n f i e = by-test (serverOf (configOf n f) i) refl e
+open-fits h i e = by-tests (serverOf (configOf h) i) (lawfulOf (configOf h)) refl refl e
   where
-    by-test : (b : Bool) → serverOf (configOf n f) i ≡ b → opened n f i b .verdict ≡ Verdict.Accepted → fits (opened n f i b .server) ≡ true
-    by-test true t d = told-fits _ (record { server-in = t; replica-fits = fresh-fits (configOf n f) (server-valid (configOf n f) i t .0) })
-    by-test false t d = accepted-not-refused _ (sym d)
+    by-tests : (b l : Bool) → serverOf (configOf h) i ≡ b → lawfulOf (configOf h) ≡ l → opened h i b l .verdict ≡ Verdict.Accepted → fits (opened h i b l .server) ≡ true
+    by-tests true true t v d = told-fits _ (record { server-in = t; replica-fits = fresh-fits (configOf h) v })
+    by-tests true false t v d = accepted-not-refused _ (sym d)
+    by-tests false l t v d = accepted-not-refused _ (sym d)
 
-pub open-typed : (n f i : ℕ) → n < 2 ^ 64 → f < 2 ^ 64 → i < 2 ^ 64 → Typed (openOf n f i .server)
+pub open-typed : (h : House) (i : ℕ) → h .n < 2 ^ 64 → h .f < 2 ^ 64 → i < 2 ^ 64 → Typed (openOf h i .server)
 unfolding openOf
-open-typed n f i a b c = by-test (serverOf (configOf n f) i)
+open-typed h i a b c = by-tests (serverOf (configOf h) i) (lawfulOf (configOf h))
   where
-    by-test : (t : Bool) → Typed (opened n f i t .server)
-    by-test true = record { n-fits = a; f-fits = b; number-fits = c; replica-typed = fresh-typed }
-    by-test false = record { n-fits = omega arith; f-fits = omega arith; number-fits = omega arith; replica-typed = fresh-typed }
+    blank : Typed blankServer
+    blank = record { config-typed = none-typed; number-fits = omega arith; replica-typed = fresh-typed }
+
+    by-tests : (t l : Bool) → Typed (opened h i t l .server)
+    by-tests true true = record { config-typed = given-typed h a b; number-fits = c; replica-typed = fresh-typed }
+    by-tests true false = blank
+    by-tests false l = blank
+
+-- a server of a lawful house is opened
+pub open-lawful : (h : House) (i : ℕ) → houseFault h ≡ 0 → i < h .n → openOf h i ≡ accepted (freshServer (configOf h) i)
+unfolding openOf
+open-lawful h i e l =
+    let v = house-told h e .lawful in
+    rw (valid-server (configOf h) i (lawful-valid (configOf h) v) l, v) refl

@@ -42,8 +42,7 @@ joined-fits s r f g e =
 
 pub joined-typed : (s : Server) (r : Replica) → Typed s → TypedReplica r → Typed (joinedServer s r)
 joined-typed s r t u = record {
-  n-fits = t .n-fits;
-  f-fits = t .f-fits;
+  config-typed = t .config-typed;
   number-fits = t .number-fits;
   replica-typed = join-typed (s .replica) r (t .replica-typed) u;
 }

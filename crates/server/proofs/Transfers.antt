@@ -1,11 +1,11 @@
 -- Transfers: their tests are those of `add` on the server's ledger, and a transfer keeps the record one that a party may hold.
 use Prim.Native.Nat.{ℕ, _≤_, _<_}
 use mathlib.Core.Path.{_≡_, refl}
-use mathlib.Core.Bool.{Bool, true, false, cond, false≢true}
+use mathlib.Core.Bool.{Bool, true, false, cond}
 use mathlib.Core.List.{List}
 use borrow.Author.Tests.{lt-ltb, le-ltb, ltb-true}
 use lib.Dec.{ltb}
-use Rattle.config.specs.Cluster.{validOf, serverOf}
+use Rattle.config.specs.Cluster.{lawfulOf, serverOf}
 use Rattle.config.specs.Refusals.{refusal}
 use Rattle.config.specs.declared.answer.Refusal.{Refusal}
 use Rattle.config.specs.declared.answer.Verdict.{Verdict}
@@ -13,7 +13,7 @@ use Rattle.config.proofs.Clusters.{server-valid}
 use Rattle.ledger.specs.declared.ledger.Changed.{Changed}
 use Rattle.ledger.specs.Ledgers.{countOf, accepted as added-ledger, refused as same-ledger}
 use Rattle.ledger.specs.Checks.{bounded, aboveFloor, fits as fitsLedger}
-use Rattle.ledger.specs.Changes.{lawful, mostCount, spares, added, giveAnswer, addAnswer}
+use Rattle.ledger.specs.Changes.{lawful, mostCount, spares, added, giveAnswer, heldAnswer}
 use Rattle.ledger.proofs.Checks.{accepted-not-refused, ledger-told, told-ledger}
 use Rattle.ledger.proofs.Spared.{add-fits, add-typed}
 use Rattle.replica.specs.Registers.{registerFits}
@@ -30,7 +30,7 @@ use Rattle.server.proofs.Servers.{fits-told, told-fits}
 
 -- what the record test says of its number and its ledger
 pub record Standing (s : Server) : Type 0 where
-  pub valid : validOf (s .config) ≡ true
+  pub lawful-house : lawfulOf (s .config) ≡ true
   pub one-of : s .number < s .config .n
   pub held : Holds (s .config) (s .replica)
 
@@ -39,7 +39,7 @@ standing s e =
     let t = fits-told s e in
     let i = server-valid (s .config) (s .number) (t .server-in) in
     record {
-      valid = i .0;
+      lawful-house = holds-told (s .config) (s .replica) (t .replica-fits) .lawful;
       one-of = i .1;
       held = holds-told (s .config) (s .replica) (t .replica-fits);
     }
@@ -140,25 +140,26 @@ give-adds s j d =
 -- The tests of a transfer are the register's, and those of `add`.
 pub transfer-adds : (s : Server) (j d : ℕ)
     → transferOf s j d
-    ≡ cond (registerFits (s .config) (s .replica .register)) (changedTo s (addAnswer (s .config) (s .replica .ledger) (s .number) j d)) (refused (refusal 1) s)
-unfolding transferOf addAnswer fits fitsReplica fitsLedger
+    ≡ cond (registerFits (s .config) (s .replica .register)) (changedTo s (heldAnswer (s .config) (s .replica .ledger) (s .number) j d)) (refused (refusal 1) s)
+unfolding transferOf heldAnswer fits fitsReplica fitsLedger
 transfer-adds s j d =
     rw (give-adds s j d)
-    (by-tests (serverOf (s .config) (s .number)) (validOf (s .config)) (bounded (s .config) (s .replica .ledger)) (aboveFloor (s .config) (s .replica .ledger))
-    (registerFits (s .config) (s .replica .register)) (giveAnswer (s .config) (s .replica .ledger) (s .number) j d) (λ e. server-valid _ _ e .0))
+    (by-tests (serverOf (s .config) (s .number)) (lawfulOf (s .config)) (bounded (s .config) (s .replica .ledger)) (aboveFloor (s .config) (s .replica .ledger))
+    (registerFits (s .config) (s .replica .register)) (giveAnswer (s .config) (s .replica .ledger) (s .number) j d))
   where
-    by-tests : (o v b a g : Bool) (x : Changed) → (o ≡ true → v ≡ true)
+    by-tests : (o v b a g : Bool) (x : Changed)
         → cond (cond o (cond v (cond b (cond a g false) false) false) false) (changedTo s x) (refused (refusal 1) s)
-        ≡ cond g (changedTo s (cond o (cond (cond b a false) x (same-ledger (refusal 1) (s .replica .ledger))) (same-ledger (refusal 1) (s .replica .ledger)))) (refused (refusal 1) s)
-    by-tests true true true true true x h = refl
-    by-tests true true true true false x h = refl
-    by-tests true true true false true x h = refl
-    by-tests true true true false false x h = refl
-    by-tests true true false a true x h = refl
-    by-tests true true false a false x h = refl
-    by-tests true false b a g x h = absurd (false≢true (h refl))
-    by-tests false v b a true x h = refl
-    by-tests false v b a false x h = refl
+        ≡ cond g (changedTo s (cond o (cond v (cond (cond b a false) x (same-ledger (refusal 1) (s .replica .ledger))) (same-ledger (refusal 1) (s .replica .ledger))) (same-ledger (refusal 1) (s .replica .ledger)))) (refused (refusal 1) s)
+    by-tests true true true true true x = refl
+    by-tests true true true true false x = refl
+    by-tests true true true false true x = refl
+    by-tests true true true false false x = refl
+    by-tests true true false a true x = refl
+    by-tests true true false a false x = refl
+    by-tests true false b a true x = refl
+    by-tests true false b a false x = refl
+    by-tests false v b a true x = refl
+    by-tests false v b a false x = refl
 
 -- ---- what a transfer keeps, as `add` does
 
@@ -168,24 +169,23 @@ transfer-fits s j d t e =
     let c = s .config in
     let l = s .replica .ledger in
     let x = standing s e in
-    let after = addAnswer c l (s .number) j d .ledger in
+    let after = heldAnswer c l (s .number) j d .ledger in
     let k =
     ledger-told c after (add-fits c l (s .number) j d (t .replica-typed .ledger-typed) (told-ledger c l (x .held .ledger-bounded) (x .held .ledger-above))) in
     rw (transfer-adds s j d, x .held .register-fits)
     (told-fits (holding s (record { ledger = after; register = s .replica .register })) (record {
       server-in = fits-told s e .server-in;
       replica-fits = told-holds c (record { ledger = after; register = s .replica .register })
-          (record { valid = x .valid; ledger-bounded = k .0; ledger-above = k .1; register-fits = x .held .register-fits });
+          (record { lawful = x .lawful-house; ledger-bounded = k .0; ledger-above = k .1; register-fits = x .held .register-fits });
     }))
 
 -- And its record is still one that a call can have.
 pub transfer-typed : (s : Server) (j d : ℕ) → Typed s → Typed (transferOf s j d .server)
 transfer-typed s j d t = rw (transfer-adds s j d) (by-register (registerFits (s .config) (s .replica .register)))
   where
-    by-register : (g : Bool) → Typed (cond g (changedTo s (addAnswer (s .config) (s .replica .ledger) (s .number) j d)) (refused (refusal 1) s) .server)
+    by-register : (g : Bool) → Typed (cond g (changedTo s (heldAnswer (s .config) (s .replica .ledger) (s .number) j d)) (refused (refusal 1) s) .server)
     by-register true = record {
-      n-fits = t .n-fits;
-      f-fits = t .f-fits;
+      config-typed = t .config-typed;
       number-fits = t .number-fits;
       replica-typed = record {
         ledger-typed = add-typed (s .config) (s .replica .ledger) (s .number) j d (t .replica-typed .ledger-typed);

@@ -6,6 +6,7 @@ use replica::Register;
 use replica::Replica;
 use replica::fits_lent;
 ghost use mathlib.Core.Path.{_≡_};
+ghost use Rattle.config.specs.Cluster.{houseOf};
 ghost use Rattle.server.specs.Parts.{serverOf as serverIn};
 ghost use Rattle.server.specs.Servers.{fits as fitsOf, blankServer, openOf, refused as refusedOf};
 
@@ -23,14 +24,19 @@ pub struct ServerAnswer {
 }
 
 impl Server {
-    // A fresh record for server `number` of n, of which f may crash: 1, and a record with every field 0, where they are out of bounds.
-    pub fn open(n: u64, f: u64, number: u64) -> ServerAnswer
-        ensures { λ r. ⌜ r ≡ openOf n f number ⌝ }
+    // A fresh record for server `number` of n, of which f may crash and which start with the weights listed: 1 where n, f or the number is out of bounds, then
+    // 15 where the list is not lawful; and a record with every field 0.
+    pub fn open(n: u64, f: u64, number: u64, starts: &[u64]) -> ServerAnswer
+        ensures { λ r. ⌜ r ≡ openOf (houseOf n f (now (starts .entry))) number ⌝ }
     {
-        let config = Config::of(n, f);
+        let config = Config::given(n, f, starts);
         if !config.has(number) {
             let blank = Server::blank();
             return blank.refused(Refusal::BadHouse);
+        }
+        if !config.lawful() {
+            let blank = Server::blank();
+            return blank.refused(Refusal::BadStart);
         }
         ServerAnswer {
             verdict: Verdict::Accepted,
@@ -61,7 +67,7 @@ impl Server {
         ensures { λ r. ⌜ r ≡ blankServer ⌝ }
     {
         Server {
-            config: Config::of(0, 0),
+            config: Config::none(),
             number: 0,
             replica: Replica::fresh(),
         }

@@ -7,7 +7,7 @@ use lib.ListN.{length}
 use Rattle.config.proofs.Clusters.{server-valid, valid-bounds}
 use Rattle.ledger.specs.declared.ledger.Ledger.{Ledger}
 use Rattle.ledger.specs.Ledgers.{ledgerOf, cellOf}
-use Rattle.ledger.specs.Changes.{added, addAnswer}
+use Rattle.ledger.specs.Changes.{added, heldAnswer}
 use Rattle.ledger.proofs.Checks.{ledger-told}
 use Rattle.ledger.proofs.Changes.{lawful-told}
 use Rattle.ledger.proofs.Spared.{Adds, spared-small, spared-room, add-told, add-left}
@@ -30,7 +30,7 @@ ledger s = ledgerOf (s .args .counts .now) (s .args .cells .now)
 told : (c : tie.After-enum-told) →
     let s = entry c in
     let a = s .args in
-    Adds (a .config) (ledger s) (a .giver) (a .taker) (a .amount) × (addAnswer (a .config) (ledger s) (a .giver) (a .taker) (a .amount) .ledger ≡ added (ledger s) (a .giver) (a .taker) (a .amount))
+    Adds (a .config) (ledger s) (a .giver) (a .taker) (a .amount) × (heldAnswer (a .config) (ledger s) (a .giver) (a .taker) (a .amount) .ledger ≡ added (ledger s) (a .giver) (a .taker) (a .amount))
 told c =
     let s = entry c in
     let a = s .args in

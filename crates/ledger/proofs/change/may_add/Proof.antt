@@ -12,7 +12,7 @@ use Rattle.config.proofs.Clusters.{server-valid, server-small, least-told, leas
 use Rattle.ledger.specs.declared.ledger.Ledger.{Ledger}
 use Rattle.ledger.specs.Ledgers.{ledgerOf, countOf, receivedOf, givenOf}
 use Rattle.ledger.specs.Checks.{fits}
-use Rattle.ledger.specs.Changes.{giveVerdict, addAnswer}
+use Rattle.ledger.specs.Changes.{giveVerdict, heldAnswer}
 use Rattle.ledger.specs.Sums.{Weighs}
 use Rattle.ledger.proofs.Checks.{fit-told, fit-refused, ledger-told}
 use Rattle.ledger.proofs.Spared.{above-told, spares-rest, add-gives}
@@ -63,7 +63,7 @@ has-requires : tie.Need-has-requires
 has-requires c κs = search needs
 
 returns : tie.Need-returns
-unfolding addAnswer
+unfolding heldAnswer
 returns c = simp (sym (c .before .has .ensures) ∙ not-true _ (c .if1 .taken))
 
 least-requires : tie.Need-least-requires
@@ -76,7 +76,7 @@ enum-told : tie.Need-enum-told
 enum-told c = search needs
 
 returns-2 : tie.Need-returns-2
-unfolding addAnswer
+unfolding heldAnswer
 returns-2 c =
     let l = c .before .before in
     simp (has (l .before), least-refused _ _ (sym (l .least .ensures) ∙ c .enum-told .given .1) .0)
@@ -97,7 +97,7 @@ enum-told-3 : tie.Need-enum-told-3
 enum-told-3 c = search needs
 
 returns-3 : tie.Need-returns-3
-unfolding addAnswer
+unfolding heldAnswer
 returns-3 c =
     let w = c .before .before .before .before in
     let s = start (one-of (known w)) in

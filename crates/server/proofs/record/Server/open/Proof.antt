@@ -2,18 +2,31 @@
 use mathlib.Core.Path.{_≡_, sym, ap, ap₂, _∙_}
 use borrow.Author.Needs.{needs}
 use borrow.Author.Tests.{not-true, not-false}
-use Rattle.config.specs.Cluster.{configOf, serverOf}
+use Rattle.config.specs.Cluster.{houseOf, configOf, serverOf, lawfulOf}
+use Rattle.config.specs.declared.cluster.Config.{Config}
 use Rattle.config.specs.Refusals.{refusal}
 use Rattle.server.specs.Servers.{openOf, accepted, refused}
 use Rattle.server.proofs.record.Server.open.Statement.{statement}
 use Rattle.server.proofs.record.Server.open.Tie as tie
 
--- whether there is such a server
-asked : (c : tie.After-has) → c .has .result ≡ serverOf (configOf (c .before .before .args .n) (c .before .before .args .f)) (c .before .before .args .number)
-asked c = c .has .ensures ∙ ap (λ d. serverOf d (c .before .before .args .number)) (c .before .of .ensures)
+-- the cluster of what was given
+given : tie.Start → Config
+given s = configOf (houseOf (s .args .n) (s .args .f) (s .args .starts .now))
 
-of-requires : tie.Need-of-requires
-of-requires c κs = search needs
+abbrev start : tie.After-has → tie.Start
+start c = c .before .before .before
+
+-- whether there is such a server, and whether the start weights are lawful
+asked : (c : tie.After-has) → c .has .result ≡ serverOf (given (start c)) (start c .args .number)
+unfolding given
+asked c = c .has .ensures ∙ ap (λ d. serverOf d (start c .args .number)) (c .before .given .ensures)
+
+listed : (c : tie.After-lawful) → c .lawful .result ≡ lawfulOf (given (start (c .before .before)))
+unfolding given
+listed c = c .lawful .ensures ∙ ap lawfulOf (c .before .before .before .given .ensures)
+
+given-requires : tie.Need-given-requires
+given-requires c κs = search needs
 
 has-requires : tie.Need-has-requires
 has-requires c κs = search needs
@@ -25,28 +38,51 @@ refused-requires : tie.Need-refused-requires
 refused-requires c κs = search needs
 
 returns : tie.Need-returns
-unfolding openOf
+unfolding openOf given
 returns c =
     simp (sym (asked (c .before .before .before)) ∙ not-true _ (c .before .before .if1 .taken))
     (c .refused .ensures ∙ ap (refused (refusal 1)) (c .before .blank .ensures))
 
+lawful-requires : tie.Need-lawful-requires
+lawful-requires c κs = search needs
+
+blank-requires-2 : tie.Need-blank-requires-2
+blank-requires-2 c κs = search needs
+
+refused-requires-2 : tie.Need-refused-requires-2
+refused-requires-2 c κs = search needs
+
+returns-2 : tie.Need-returns-2
+unfolding openOf given
+returns-2 c =
+    let t = c .before .before in
+    let o = t .before .before in
+    simp (sym (asked (o .before)) ∙ not-false _ (o .if1 .left), sym (listed (t .before)) ∙ not-true _ (t .if2 .taken))
+    (c .refused2 .ensures ∙ ap (refused (refusal 15)) (c .before .blank2 .ensures))
+
 fresh-requires : tie.Need-fresh-requires
 fresh-requires c κs = search needs
 
-returns-2 : tie.Need-returns-2
-unfolding openOf
-returns-2 c =
-    simp (sym (asked (c .before .before)) ∙ not-false _ (c .before .if1 .left))
-    (ap₂ (λ d r. accepted (record { config = d; number = c .before .before .before .before .args .number; replica = r })) (c .before .before .before .of .ensures) (c .fresh .ensures))
+returns-3 : tie.Need-returns-3
+unfolding openOf given
+returns-3 c =
+    let t = c .before in
+    let o = t .before .before in
+    simp (sym (asked (o .before)) ∙ not-false _ (o .if1 .left), sym (listed (t .before)) ∙ not-false _ (t .if2 .left))
+    (ap₂ (λ d r. accepted (record { config = d; number = start (o .before) .args .number; replica = r })) (o .before .before .given .ensures) (c .fresh .ensures))
 
 pub open-spec : {M : Type 1} → statement M
 open-spec =
     tie.close
     (tie.spec
-    of-requires
+    given-requires
     has-requires
     blank-requires
     refused-requires
     returns
+    lawful-requires
+    blank-requires-2
+    refused-requires-2
+    returns-2
     fresh-requires
-    returns-2)
+    returns-3)
