@@ -16,9 +16,9 @@ use Rattle.quorums.specs.Accounts.{held, weight}
 use Rattle.quorums.proofs.Differences.{lt-difference, difference-down, difference-back}
 use Rattle.quorums.proofs.Margins.{lacks}
 use Rattle.quorums.proofs.Weights.{above-lt}
-use Rattle.config.specs.Cluster.{validOf, serverOf, totalOf, aboveOf}
+use Rattle.config.specs.Cluster.{validOf, lawfulOf, serverOf, totalOf, aboveOf}
 use Rattle.config.specs.Refusals.{numberOf}
-use Rattle.config.proofs.Clusters.{total-small}
+use Rattle.config.proofs.Clusters.{lawful-valid, total-small}
 use Rattle.config.specs.declared.cluster.Config.{Config}
 use Rattle.config.specs.declared.answer.Refusal.{Refusal}
 use Rattle.config.specs.declared.answer.Signed.{Signed}
@@ -64,14 +64,15 @@ weight-above c server msg w e =
     let none : check c msg ≡ 0 = eqb-true _ _ (passes .0) in
     let known = chosen-first (serverOf c server) _ _ _ (λ d. signed-not-refused _ _ (sym d)) (passes .1) in
     let server-is = both (validOf c) _ (known .0) in
-    let told : weightOf c (receiveOf c msg .replica .ledger) server ≡ w = cc in
+    let house = chosen-first (lawfulOf c) _ _ _ (λ d. signed-not-refused _ _ (sym d)) (known .1) in
+    let told : weightOf c (receiveOf c msg .replica .ledger) server ≡ w = cc (house .1) in
     let above = each-above c (receiveOf c msg .replica .ledger) (passed-above c msg none) server (ltb-true _ _ (server-is .1)) in
     rw (sym told) (above-zero c (receiveOf c msg .replica .ledger) server above)
 
 -- ---- margins
 
 -- a number from −W to W is no refusal's code
-within-apart : (c : Config) (y : ℤ) (r : Refusal) → validOf c ≡ true → Within c y → y ≡ refusalCode r → ⊥
+within-apart : (c : Config) (y : ℤ) (r : Refusal) → lawfulOf c ≡ true → Within c y → y ≡ refusalCode r → ⊥
 unfolding refusalCode
 within-apart c y r valid w e =
     let code = 1000000 + numberOf r in
@@ -80,15 +81,15 @@ within-apart c y r valid w e =
     omega (arith, difference-back 0 (low .by) 0 code (sym (low .is) ∙ e), low .most, total-small c valid)
 
 -- A margin is told of a message that passes, on whose sheet no weight is negative and all together are W.
-pub quorum-within : (c : Config) (map : ℕ) (msg : List ℕ) (y : ℤ) → quorumIn c map msg ≡ Signed.Value y → (validOf c ≡ true) × Within c y
+pub quorum-within : (c : Config) (map : ℕ) (msg : List ℕ) (y : ℤ) → quorumIn c map msg ≡ Signed.Value y → (lawfulOf c ≡ true) × Within c y
 unfolding quorumIn
 quorum-within c map msg y e =
     let passes = chosen-first (eqb (check c msg) 0) _ _ _ (λ d. signed-not-refused _ _ (sym d)) e in
     let none : check c msg ≡ 0 = eqb-true _ _ (passes .0) in
     let valid = check-told c msg none .0 in (
       valid,
-      rw (quorum-number c (receiveOf c msg .replica .ledger) map y (passes .1) .1)
-          (margin-within c (receiveOf c msg .replica .ledger) map valid (passed-bounded c msg none) (passed-above c msg none)),
+      rw (quorum-number c (receiveOf c msg .replica .ledger) map y (passes .1) .2)
+          (margin-within c (receiveOf c msg .replica .ledger) map (lawful-valid c valid) (passed-bounded c msg none) (passed-above c msg none)),
     )
 
 pub quorum-apart : (c : Config) (map : ℕ) (msg : List ℕ) (y : ℤ) (r : Refusal) → quorumIn c map msg ≡ Signed.Value y → y ≡ refusalCode r → ⊥
@@ -97,5 +98,5 @@ quorum-apart c map msg y r e = let t = quorum-within c map msg y e in within-apa
 -- So it is with a desk's, told of a record that passes its test.
 pub margin-apart : (x : Desk) (y : ℤ) (r : Refusal) → marginOf x ≡ Signed.Value y → y ≡ refusalCode r → ⊥
 margin-apart x y r e =
-    let valid = holds-told (x .config) (x .replica) (fits-told x (margin-told x y e .sound) .replica-fits) .valid in
+    let valid = holds-told (x .config) (x .replica) (fits-told x (margin-told x y e .sound) .replica-fits) .lawful in
     within-apart (x .config) y r valid (told-within x y e)

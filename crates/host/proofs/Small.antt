@@ -9,29 +9,16 @@ use borrow.Author.Tests.{leb-true}
 use Rattle.quorums.proofs.Tests.{chosen-first}
 use Rattle.quorums.proofs.Sums.{sum-le, sum-const}
 use Rattle.config.proofs.Clusters.{value-not-refused}
-use Rattle.config.specs.Refusals.{numberOf}
+use Rattle.config.specs.Refusals.{numberOf, mostRefusal}
+use Rattle.config.proofs.Refusals.{meaning-number, meaning-told}
 use Rattle.config.specs.declared.answer.Refusal.{Refusal}
-use Rattle.config.specs.declared.answer.Refusal.the-variants.{BadHouse, Torn, BadMap, OddField, Light, Clash, Stray, Busy, Idle, Thin, BadTransfer, Spent, Narrow, Long}
 use Rattle.config.specs.declared.answer.Number.{Number}
 use Rattle.host.specs.Codes.{Within}
 use Rattle.seats.specs.Offers.{freeIn, offered, offerAnswer}
 use Rattle.format.specs.Bytes.{bit}
 
-pub number-most : (r : Refusal) → numberOf r ≤ 14
-number-most BadHouse = omega arith
-number-most Torn = omega arith
-number-most BadMap = omega arith
-number-most OddField = omega arith
-number-most Light = omega arith
-number-most Clash = omega arith
-number-most Stray = omega arith
-number-most Busy = omega arith
-number-most Idle = omega arith
-number-most Thin = omega arith
-number-most BadTransfer = omega arith
-number-most Spent = omega arith
-number-most Narrow = omega arith
-number-most Long = omega arith
+pub number-most : (r : Refusal) → numberOf r ≤ mostRefusal
+number-most r = meaning-told (numberOf r) r (meaning-number r) .3
 
 -- a byte has at most 8 seats
 free-most : (byte : ℕ) → freeIn byte ≤ 8

@@ -13,6 +13,7 @@ use ledger::put_counts;
 use replica::Register;
 ghost use mathlib.Core.Path.{_≡_};
 ghost use mathlib.Core.List.{[]};
+ghost use Rattle.config.specs.Cluster.{houseOf};
 ghost use Rattle.desk.specs.Operations.{reading, writing};
 ghost use Rattle.desk.specs.Desks.{openOf};
 ghost use Rattle.desk.specs.Begins.{beginOf, dropOf, answerOf};
@@ -39,12 +40,12 @@ pub struct AnsweredResult {
     pub register: Register,
 }
 
-// A fresh record for desk `number` of a cluster of n servers, of which f may crash.
+// A fresh record for desk `number` of a cluster of n servers, of which f may crash and which start with the weights listed.
 #[no_mangle]
-pub extern "C" fn tovridsa_open_desk(n: u64, f: u64, number: u64) -> AnsweredDesk
-    ensures { λ r. ⌜ r ≡ deskCode (openOf n f number) ⌝ }
+pub extern "C" fn tovridsa_open_desk(n: u64, f: u64, number: u64, starts: &[u64]) -> AnsweredDesk
+    ensures { λ r. ⌜ r ≡ deskCode (openOf (houseOf n f (now (starts .entry))) number) ⌝ }
 {
-    of_desk(Desk::open(n, f, number))
+    of_desk(Desk::open(n, f, number, starts))
 }
 
 // Begins a read, with a note, or 0 for none.

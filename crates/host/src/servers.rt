@@ -8,6 +8,7 @@ use server::Server;
 use server::ServerAnswer;
 use server::serve_in;
 ghost use mathlib.Core.Path.{_≡_};
+ghost use Rattle.config.specs.Cluster.{houseOf};
 ghost use Rattle.server.specs.Servers.{openOf};
 ghost use Rattle.server.specs.Shares.{shareOf};
 ghost use Rattle.server.specs.Transfers.{transferOf};
@@ -30,12 +31,17 @@ pub struct AnsweredServe {
     pub server: Server,
 }
 
-// A fresh record for server `number` of n, of which f may crash.
+// A fresh record for server `number` of n, of which f may crash and which start with the weights listed.
 #[no_mangle]
-pub extern "C" fn tovridsa_open_server(n: u64, f: u64, number: u64) -> AnsweredServer
-    ensures { λ r. ⌜ r ≡ serverCode (openOf n f number) ⌝ }
+pub extern "C" fn tovridsa_open_server(
+    n: u64,
+    f: u64,
+    number: u64,
+    starts: &[u64],
+) -> AnsweredServer
+    ensures { λ r. ⌜ r ≡ serverCode (openOf (houseOf n f (now (starts .entry))) number) ⌝ }
 {
-    of_server(Server::open(n, f, number))
+    of_server(Server::open(n, f, number, starts))
 }
 
 // Gives `amount` to `taker`.

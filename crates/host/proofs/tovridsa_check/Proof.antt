@@ -7,8 +7,8 @@ use Rattle.host.specs.Codes.{verdictCode, checkCode}
 use Rattle.host.proofs.tovridsa_check.Statement.{statement}
 use Rattle.host.proofs.tovridsa_check.Tie as tie
 
-of-requires : tie.Need-of-requires
-of-requires c κs = search needs
+given-requires : tie.Need-given-requires
+given-requires c κs = search needs
 
 check-requires : tie.Need-check-requires
 check-requires c κs = search needs
@@ -19,11 +19,11 @@ of-verdict-requires c κs = search needs
 returns : tie.Need-returns
 unfolding checkCode
 returns c =
-    let a = c .before .before .before .before .args in
-    let asked : c .before .check .result ≡ checkAnswer (c .before .before .of .result) (a .msg .now) = c .before .check .ensures in
+    let a = c .before .before .before .before .before .args in
+    let asked : c .before .check .result ≡ checkAnswer (c .before .before .given .result) (a .msg .now) = c .before .check .ensures in
     read-back (c .of-verdict .result) (c .of-verdict .ok)
     ∙ c .of-verdict .ensures
-    ∙ ap verdictCode (asked ∙ ap (λ config. checkAnswer config (a .msg .now)) (c .before .before .of .ensures))
+    ∙ ap verdictCode (asked ∙ ap (λ config. checkAnswer config (a .msg .now)) (c .before .before .given .ensures))
 
 pub tovridsa-check-spec : {M : Type 1} → statement M
-tovridsa-check-spec = tie.close (tie.spec of-requires check-requires of-verdict-requires returns)
+tovridsa-check-spec = tie.close (tie.spec given-requires check-requires of-verdict-requires returns)

@@ -7,8 +7,8 @@ use Rattle.host.specs.Codes.{signedCode, quorumCode}
 use Rattle.host.proofs.tovridsa_quorum.Statement.{statement}
 use Rattle.host.proofs.tovridsa_quorum.Tie as tie
 
-of-requires : tie.Need-of-requires
-of-requires c κs = search needs
+given-requires : tie.Need-given-requires
+given-requires c κs = search needs
 
 quorum-requires : tie.Need-quorum-requires
 quorum-requires c κs = search needs
@@ -19,12 +19,12 @@ of-signed-requires c κs = search needs
 returns : tie.Need-returns
 unfolding quorumCode
 returns c =
-    let a = c .before .before .before .before .args in
-    let asked : c .before .quorum .result ≡ quorumIn (c .before .before .of .result) (a .map) (a .msg .now) = c .before .quorum .ensures in
+    let a = c .before .before .before .before .before .args in
+    let asked : c .before .quorum .result ≡ quorumIn (c .before .before .given .result) (a .map) (a .msg .now) = c .before .quorum .ensures in
     read-back (c .of-signed .result) (c .of-signed .ok)
     ∙ c .of-signed .ensures
-    ∙ ap signedCode (asked ∙ ap (λ config. quorumIn config (a .map) (a .msg .now)) (c .before .before .of .ensures))
+    ∙ ap signedCode (asked ∙ ap (λ config. quorumIn config (a .map) (a .msg .now)) (c .before .before .given .ensures))
 
 pub tovridsa-quorum-spec : {M : Type 1} → statement M
 tovridsa-quorum-spec =
-    tie.close (tie.spec of-requires quorum-requires of-signed-requires returns)
+    tie.close (tie.spec given-requires quorum-requires of-signed-requires returns)

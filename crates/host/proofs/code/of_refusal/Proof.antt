@@ -1,4 +1,4 @@
--- `of_refusal` meets its contract: the number is at most 14, so that its signed reading, and the difference, are themselves.
+-- `of_refusal` meets its contract: the number is small, so that its signed reading, and the difference, are themselves.
 use Prim.Native.Nat.{_+_, _≤_}
 use native.Mathlib.Omega.{arith}
 use mathlib.Core.Path.{sym, ap, _∙_, subst}
@@ -14,8 +14,8 @@ use Rattle.host.proofs.code.of_refusal.Tie as tie
 number-requires : tie.Need-number-requires
 number-requires c κs = search needs
 
-most : (c : tie.After-number) → c .number .result ≤ 14
-most c = subst (λ k. k ≤ 14) (sym (c .number .ensures)) (number-most (c .before .args .refusal))
+most : (c : tie.After-number) → c .number .result ≤ 15
+most c = subst (λ k. k ≤ 15) (sym (c .number .ensures)) (number-most (c .before .args .refusal))
 
 add-code : tie.Need-add-code
 add-code c = omega (arith, most c)
