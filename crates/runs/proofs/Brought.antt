@@ -12,9 +12,9 @@ use lib.ListN.{length}
 use Rattle.quorums.specs.Sum.{sum}
 use Rattle.quorums.proofs.Tests.{le-or-lt}
 use Rattle.quorums.proofs.Sums.{sum-same, sum-add, sum-one, sum-zero}
-use Rattle.config.specs.Cluster.{validOf}
+use Rattle.config.specs.Cluster.{House, configOf, lawfulOf}
 use Rattle.config.specs.declared.cluster.Config.{Config}
-use Rattle.config.proofs.Clusters.{valid-bounds}
+use Rattle.config.proofs.Clusters.{lawful-bounds}
 use Rattle.ledger.specs.Ledgers.{countOf}
 use Rattle.machine.specs.Sets.{Transfer, Transfers, has, union, tally, count}
 use Rattle.machine.specs.Parties.{join, Message, bytesOf}
@@ -59,9 +59,12 @@ counts-length n a h =
     inside t e =
         ⊎-elim (λ (l : n ≤ t .giver). absurd (omega (arith, h (t .giver) l, count-some a t e))) (λ (l : t .giver < n). l) (le-or-lt n (t .giver))
 
-module _ (c : Config) (valid : validOf c ≡ true) (steps : List Step) (typed : Typed steps) where
+module _ (house : House) (lawful : lawfulOf (configOf house) ≡ true) (steps : List Step) (typed : Typed steps) where
+  abbrev c : Config
+  c = configOf house
+
   abbrev p : ProgramRun
-  p = runOf c steps
+  p = runOf house steps
 
   abbrev r : PlainRun
   r = plainRun p
@@ -70,7 +73,7 @@ module _ (c : Config) (valid : validOf c ≡ true) (steps : List Step) (typed : 
   pub size-counts : (k : ℕ) (a : Transfers) → PlainFound r k a → sum 16 (count a) ≡ length a
   size-counts k a f =
       counts-length 16 a
-      (λ i l. found-range c valid (map plain steps) k a f .counts-inside i (omega (arith, valid-bounds c valid .most)))
+      (λ i l. found-range house lawful (map plain steps) k a f .counts-inside i (omega (arith, lawful-bounds c lawful .most)))
 
   -- ---- what a step brings
 
@@ -86,13 +89,13 @@ module _ (c : Config) (valid : validOf c ≡ true) (steps : List Step) (typed : 
       → when (when (nth (at p k .sent) q) none (λ msg. cond (eqb e d) (some msg) none)) 0 (λ msg. countOf (ledgerIn c msg) i)
       ≡ count (when (when (nth (at r k .sent) q) none (λ m. cond (eqb e d) (some m) none)) [] (λ m. m .replica .set)) i
   unfolding count tally
-  reply-for d k i l e q = rw (sent-at c valid steps typed k q) (by-place (nth (at r k .sent) q) refl (eqb e d))
+  reply-for d k i l e q = rw (sent-at house lawful steps typed k q) (by-place (nth (at r k .sent) q) refl (eqb e d))
     where
       by-place : (o : Option Message) → nth (at r k .sent) q ≡ o → (b : Bool)
           → when (when (when o none (λ m. some (bytesOf c m))) none (λ msg. cond b (some msg) none)) 0 (λ msg. countOf (ledgerIn c msg) i)
           ≡ count (when (when o none (λ m. cond b (some m) none)) [] (λ m. m .replica .set)) i
       by-place none f b = refl
-      by-place (some m) f true = ap (λ x. countOf x i) (sent-carries c valid steps typed k q m f) ∙ count-below (m .replica .set) i l
+      by-place (some m) f true = ap (λ x. countOf x i) (sent-carries house lawful steps typed k q m f) ∙ count-below (m .replica .set) i l
       by-place (some m) f false = refl
 
   -- what is counted of the message that a step has a desk hear
@@ -115,7 +118,7 @@ module _ (c : Config) (valid : validOf c ≡ true) (steps : List Step) (typed : 
   -- of each giver as many as the machine's step
   brings-for : (d k i : ℕ) → i < 16 → bringsOf d k i ≡ count (plainBrings r d k) i
   unfolding hears count tally
-  brings-for d k i l = rw (answer-at c valid steps typed k, nth-map plain steps k) (by-step (nth steps k))
+  brings-for d k i l = rw (answer-at house lawful steps typed k, nth-map plain steps k) (by-step (nth steps k))
     where
       by-answer : (b : Bool) (st : Step)
           → when (cond b (heardIn d (at p k .sent) (asked st)) none) 0 (λ msg. countOf (ledgerIn c msg) i)
@@ -158,7 +161,7 @@ module _ (c : Config) (valid : validOf c ≡ true) (steps : List Step) (typed : 
 
       larger : (q : ℕ) (m : Message) → nth (at r k .sent) q ≡ some m
           → count (union (deskAt r d k .replica .set) (m .replica .set)) i ≡ max (count (deskAt r d k .replica .set) i) (count (m .replica .set) i)
-      larger q m e = found-agree c valid (map plain steps) k k _ _ (plain-desk d refl) (plain-message q m e refl) i .counts
+      larger q m e = found-agree house lawful (map plain steps) k k _ _ (plain-desk d refl) (plain-message q m e refl) i .counts
 
   -- so it has the most that the hears brought
   brought-next : (d k i : ℕ) → broughtOf d (suc k) i ≡ max (broughtOf d k i) (bringsOf d k i)
@@ -215,6 +218,6 @@ module _ (c : Config) (valid : validOf c ≡ true) (steps : List Step) (typed : 
   -- the ledger that a desk holds has as many transfers as the machine's set
   pub transfers-for : (d k : ℕ) → Seated d → sum 16 (countOf (deskAt p d k .replica .ledger)) ≡ length (deskAt r d k .replica .set)
   transfers-for d k seated =
-      ap (λ x. sum 16 (countOf (x .replica .ledger))) (stands-at c valid steps typed k .desks d seated)
+      ap (λ x. sum 16 (countOf (x .replica .ledger))) (stands-at house lawful steps typed k .desks d seated)
       ∙ sum-same 16 _ _ (count-below (deskAt r d k .replica .set))
       ∙ size-counts k (deskAt r d k .replica .set) (plain-desk d refl)

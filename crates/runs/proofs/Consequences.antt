@@ -9,7 +9,7 @@ use mathlib.Core.Option.{some}
 use lib.IntN.{pos}
 use Rattle.quorums.specs.Sum.{sum, size}
 use Rattle.quorums.specs.Accounts.{weightIn}
-use Rattle.config.specs.Cluster.{validOf, aboveOf}
+use Rattle.config.specs.Cluster.{House, configOf, lawfulOf, aboveOf}
 use Rattle.config.specs.declared.cluster.Config.{Config}
 use Rattle.config.specs.declared.answer.Verdict.{Verdict}
 use Rattle.config.proofs.Clusters.{total-is}
@@ -126,15 +126,18 @@ module _ {p : ProgramRun} {d i : ℕ} {t : Task} where
 
 -- ---- of every run
 
-module _ (c : Config) (valid : validOf c ≡ true) (steps : List Step) (typed : Typed steps) where
+module _ (house : House) (lawful : lawfulOf (configOf house) ≡ true) (steps : List Step) (typed : Typed steps) where
+  abbrev c : Config
+  c = configOf house
+
   abbrev p : ProgramRun
-  p = runOf c steps
+  p = runOf house steps
 
   abbrev r : PlainRun
   r = plainRun p
 
   d3 : Demand3 p
-  d3 = demand3 c valid steps typed
+  d3 = demand3 house lawful steps typed
 
   -- ---- the clauses of what is seen of the program itself
 

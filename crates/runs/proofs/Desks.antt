@@ -9,7 +9,7 @@ use borrow.Author.Tests.{lt-ltb, le-ltb, le-leb, lt-leb}
 use lib.Dec.{eqb, leb, ltb}
 use lib.ListN.{length}
 use Rattle.quorums.proofs.Tests.{le-or-lt, eqb-comm}
-use Rattle.config.specs.Cluster.{validOf}
+use Rattle.config.specs.Cluster.{lawfulOf}
 use Rattle.config.specs.declared.cluster.Config.{Config}
 use Rattle.config.specs.Refusals.{refusal}
 use Rattle.ledger.specs.Maps.{named, mapOf}
@@ -51,7 +51,7 @@ map-names [] i = below-named 0 0 i (omega arith) (omega arith)
 map-names (m ∷ l) i = marked-names (mapFor l) (m .server) i ∙ ap₂ {C = Bool} (λ a b. cond a true b) (eqb-comm i (m .server)) (map-names l i)
 
 -- and is a map of the cluster
-pub map-inside : (c : Config) → validOf c ≡ true → (l : List Message) → ((m : Message) → In m l → m .server < c .n) → mapOf c (mapFor l) ≡ true
+pub map-inside : (c : Config) → lawfulOf c ≡ true → (l : List Message) → ((m : Message) → In m l → m .server < c .n) → mapOf c (mapFor l) ≡ true
 unfolding mapFor
 map-inside c valid [] e = none-answered c valid
 map-inside c valid (m ∷ l) e = marked-map c (mapFor l) (m .server) (e m (inl refl)) (map-inside c valid l (λ k i. e k (inr i)))
@@ -80,7 +80,7 @@ chosen-fits c first e = start-fits c
 chosen-fits c (second g) e = register-fits c g (e g refl)
 
 -- its test passes, whatever the desk does
-operation-fits : (c : Config) → validOf c ≡ true → (sent : List Message) (d round : ℕ) (a : Activity) → ActivityRange c sent d round a
+operation-fits : (c : Config) → lawfulOf c ≡ true → (sent : List Message) (d round : ℕ) (a : Activity) → ActivityRange c sent d round a
     → ((o : Operation) (g : Register) → a ≡ running o → o .phase ≡ second g → RegisterRange c g)
     → ((y : Result) → a ≡ ended y → RegisterRange c (y .register))
     → fitsOperation c round (operationFor a) ≡ true
@@ -114,7 +114,7 @@ number-lawful d s = rw (le-leb 1 d (s .some)) (le-leb d 65535 (s .most))
 
 -- ---- the calls
 
-module _ (c : Config) (valid : validOf c ≡ true) (sent : List Message) (d : ℕ) (seated : Seated d) (x : PlainDesk) (w : DeskRange c sent d x) (h : Held c (x .replica)) where
+module _ (c : Config) (valid : lawfulOf c ≡ true) (sent : List Message) (d : ℕ) (seated : Seated d) (x : PlainDesk) (w : DeskRange c sent d x) (h : Held c (x .replica)) where
   -- the record test passes
   pub desk-fits : fits (deskFor c d x) ≡ true
   desk-fits =

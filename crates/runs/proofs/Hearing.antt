@@ -6,7 +6,7 @@ use mathlib.Core.Bool.{Bool, true, false, cond, not}
 use mathlib.Core.List.{List}
 use borrow.Author.Tests.{eqb-true}
 use lib.Dec.{eqb}
-use Rattle.config.specs.Cluster.{validOf}
+use Rattle.config.specs.Cluster.{lawfulOf}
 use Rattle.config.specs.declared.cluster.Config.{Config}
 use Rattle.config.specs.Refusals.{refusal}
 use Rattle.ledger.specs.Joins.{lacks}
@@ -41,7 +41,7 @@ pub record Hearable (c : Config) (d : ℕ) (x : PlainDesk) (m : Message) : Type 
   pub current : m .kind ≡ reply → m .desk ≡ d → m .round ≡ x .round → (i : ℕ) → count (x .replica .set) i ≤ count (m .replica .set) i
   pub known : (includes (x .replica .set) (m .replica .set) ≡ true) ↔ ((i : ℕ) → i < c .n → count (m .replica .set) i ≤ count (x .replica .set) i)
 
-module _ (c : Config) (valid : validOf c ≡ true) (d : ℕ) (x : PlainDesk) (h : Held c (x .replica)) (m : Message) (k : Hearable c d x m) where
+module _ (c : Config) (valid : lawfulOf c ≡ true) (d : ℕ) (x : PlainDesk) (h : Held c (x .replica)) (m : Message) (k : Hearable c d x m) where
   -- what is handed back for the machine's desk
   abbrev Same : Heard → Outcome Message PlainDesk → Type 0
   Same a p = heardCalled a ≡ calledFor c (deskFor c d) p
@@ -130,7 +130,7 @@ module _ (c : Config) (valid : validOf c ≡ true) (d : ℕ) (x : PlainDesk) (h 
       by-kinds share e = refl
 
 -- Hear of a message that was sent.
-pub hear-for : (c : Config) → validOf c ≡ true → (sent : List Message) (d : ℕ) → Seated d → (x : PlainDesk) → DeskRange c sent d x → Held c (x .replica)
+pub hear-for : (c : Config) → lawfulOf c ≡ true → (sent : List Message) (d : ℕ) → Seated d → (x : PlainDesk) → DeskRange c sent d x → Held c (x .replica)
     → (m : Message) → Hearable c d x m → hearCall (deskFor c d x) (bytesOf c m) ≡ calledFor c (deskFor c d) (hearBy c d x m)
 unfolding hearCall hearOf
 hear-for c valid sent d seated x w h m k =

@@ -20,9 +20,9 @@ use Rattle.quorums.proofs.Tests.{le-or-lt}
 use Rattle.quorums.proofs.Sums.{sum-same, sumIn-same, sumIn-set, each-all}
 use Rattle.quorums.proofs.Weights.{weightIn-is, margin-is}
 use Rattle.format.proofs.Same.{SameSheet}
-use Rattle.config.specs.Cluster.{validOf, startOf, aboveOf, mostWeight}
+use Rattle.config.specs.Cluster.{lawfulOf, startOf, aboveOf, mostWeight}
 use Rattle.config.specs.declared.cluster.Config.{Config}
-use Rattle.config.proofs.Clusters.{valid-bounds}
+use Rattle.config.proofs.Clusters.{lawful-bounds}
 use Rattle.quorums.specs.Tables.{run, table}
 use Rattle.ledger.specs.Ledgers.{freshLedger, countOf, cellOf, givenOf, receivedOf, accountsOf, Typed}
 use Rattle.ledger.specs.Maps.{named}
@@ -139,8 +139,8 @@ added-for a i j k d l m =
 -- ---- the cluster's bounds
 
 -- there are at most 16 servers
-pub server-below : (c : Config) → validOf c ≡ true → (i : ℕ) → i < c .n → i < 16
-server-below c valid i l = omega (arith, valid-bounds c valid .most)
+pub server-below : (c : Config) → lawfulOf c ≡ true → (i : ℕ) → i < c .n → i < 16
+server-below c valid i l = omega (arith, lawful-bounds c valid .most)
 
 -- a cell that holds nothing may stand anywhere
 may-hold-zero : (n k x : ℕ) → x ≡ 0 → mayHold n k x ≡ true
@@ -152,14 +152,14 @@ total-fits : (count total : ℕ) → count ≤ total → total ≤ mostWeight * 
 unfolding totalFits
 total-fits count total p q = rw (le-leb _ _ p) (le-leb _ _ q)
 
-module _ (c : Config) (valid : validOf c ≡ true) (a : Transfers) (w : SetRange c a) where
+module _ (c : Config) (valid : lawfulOf c ≡ true) (a : Transfers) (w : SetRange c a) where
   -- there is nothing of servers from n on
   pub count-for : (i : ℕ) → countOf (ledgerFor a) i ≡ count a i
   count-for i =
       ⊎-elim
       (λ (h : 16 ≤ i).
       List·getD-eq-default (ledgerFor a .counts) 0 (omega (arith, lengths a .0))
-      ∙ sym (w .counts-inside i (omega (arith, valid-bounds c valid .most))))
+      ∙ sym (w .counts-inside i (omega (arith, lawful-bounds c valid .most))))
       (λ (h : i < 16). count-below a i h)
       (le-or-lt 16 i)
 
@@ -284,7 +284,7 @@ pub lacks-none : (a b : Transfers) → ((i : ℕ) → count b i ≤ count a i) �
 lacks-none a b e = lacks-nothing (ledgerFor a) (ledgerFor b) .1 (λ i h. omega (arith, count-below a i h, count-below b i h, e i))
 
 -- a lacks a transfer of b exactly when some count of b is above that of a
-pub lacks-for : (c : Config) → validOf c ≡ true → (a b : Transfers) → SetRange c a → SetRange c b
+pub lacks-for : (c : Config) → lawfulOf c ≡ true → (a b : Transfers) → SetRange c a → SetRange c b
     → ((includes a b ≡ true) ↔ ((i : ℕ) → i < c .n → count b i ≤ count a i)) → lacks (ledgerFor a) (ledgerFor b) ≡ not (includes a b)
 lacks-for c valid a b u w e = by-test (includes a b) (lacks (ledgerFor a) (ledgerFor b)) refl refl
   where
@@ -302,5 +302,5 @@ lacks-for c valid a b u w e = by-test (includes a b) (lacks (ledgerFor a) (ledge
           arith,
           count-for c valid a u i,
           count-for c valid b w i,
-          lacks-nothing (ledgerFor a) (ledgerFor b) .0 q i (omega (arith, valid-bounds c valid .most)),
+          lacks-nothing (ledgerFor a) (ledgerFor b) .0 q i (omega (arith, lawful-bounds c valid .most)),
         ))

@@ -9,7 +9,7 @@ use mathlib.Core.Option.{some}
 use lib.IntN.{pos}
 use lib.ListN.{replicate}
 use Rattle.quorums.specs.Sum.{sum, sumIn, size}
-use Rattle.config.specs.Cluster.{level, validOf, aboveOf}
+use Rattle.config.specs.Cluster.{level, lawfulOf, aboveOf}
 use Rattle.config.specs.declared.cluster.Config.{Config}
 use Rattle.config.specs.declared.answer.Verdict.{Verdict}
 use Rattle.ledger.specs.declared.ledger.Ledger.{Ledger}
@@ -100,8 +100,8 @@ messages =
     ∷ ((0x00 ∷ 0x6F ∷ 0x02 ∷ 0x01 ∷ 0x00 ∷ 0x01 ∷ 0x00 ∷ 0x00 ∷ 0x00 ∷ 0x03 ∷ []) ++ sheetBytes ++ noteBytes)
     ∷ []
 
-valid : validOf two ≡ true
-unfolding validOf
+valid : lawfulOf two ≡ true
+unfolding lawfulOf
 valid = refl
 
 typed : Typed steps

@@ -10,7 +10,7 @@ use lib.Dec.{eqb}
 use lib.IntN.{ℤ}
 use Rattle.quorums.specs.Difference.{difference}
 use Rattle.quorums.proofs.Margins.{lacks}
-use Rattle.config.specs.Cluster.{validOf, totalOf}
+use Rattle.config.specs.Cluster.{House, configOf, lawfulOf, totalOf}
 use Rattle.config.specs.Refusals.{refusal}
 use Rattle.config.specs.declared.cluster.Config.{Config}
 use Rattle.config.specs.declared.answer.Signed.{Signed}
@@ -50,9 +50,12 @@ pub record Shows (c : Config) (x : Desk) : Type 0 where
   pub runs : x .operation .mode ≡ runningMode → Below c x
   pub rests : (x .operation .mode ≡ runningMode → ⊥) → marginOf x ≡ Signed.Refused (refusal 9)
 
-module _ (c : Config) (valid : validOf c ≡ true) (steps : List Step) (typed : Typed steps) where
+module _ (house : House) (lawful : lawfulOf (configOf house) ≡ true) (steps : List Step) (typed : Typed steps) where
+  abbrev c : Config
+  c = configOf house
+
   abbrev p : ProgramRun
-  p = runOf c steps
+  p = runOf house steps
 
   abbrev r : PlainRun
   r = plainRun p
@@ -72,7 +75,7 @@ module _ (c : Config) (valid : validOf c ≡ true) (steps : List Step) (typed : 
 
     told-of : marginOf (deskFor c d x) ≡ tested (x .activity)
     unfolding marginOf
-    told-of = rw (desk-fits c valid (at r k .sent) d seated x (desk-range c valid steps typed k d) (desk-held c valid steps typed k d)) refl
+    told-of = rw (desk-fits c lawful (at r k .sent) d seated x (desk-range house lawful steps typed k d) (desk-held house lawful steps typed k d)) refl
 
     -- it is the machine's: the servers that answered are those heard
     same : marginOf (deskFor c d x) ≡ shownAs (marginBy c x)
@@ -83,7 +86,7 @@ module _ (c : Config) (valid : validOf c ≡ true) (steps : List Step) (typed : 
         by-activity idle = refl
         by-activity (running o) =
             ap Signed.Value
-            (margin-for c valid set (desk-held c valid steps typed k d .range .set) (mapFor (o .heard)) (answered (o .heard)) (λ i l. map-names (o .heard) i))
+            (margin-for c lawful set (desk-held house lawful steps typed k d .range .set) (mapFor (o .heard)) (answered (o .heard)) (λ i l. map-names (o .heard) i))
         by-activity (ended y) = refl
 
     below : (o : Operation) → x .activity ≡ running o → Below c (deskFor c d x)
@@ -92,7 +95,7 @@ module _ (c : Config) (valid : validOf c ≡ true) (steps : List Step) (typed : 
         let y = plainMargin c set (answered (o .heard)) in
         let by-machine : marginBy c x ≡ some y = ap (λ a. if-running a (λ o. some (plainMargin c set (answered (o .heard)))) none) e in
         let told : marginOf (deskFor c d x) ≡ Signed.Value y = same ∙ ap shownAs by-machine in
-        let z = lacks (totalOf c) y (told-within (deskFor c d x) y told .least) (shown-below c (map plain steps) d k y by-machine) in
+        let z = lacks (totalOf c) y (told-within (deskFor c d x) y told .least) (shown-below house (map plain steps) d k y by-machine) in
         record { by = z .by; told = told ∙ ap Signed.Value (z .is); most = z .most }
 
     shows : (a : Activity) → x .activity ≡ a → Shows c (deskFor c d x)
@@ -107,7 +110,7 @@ module _ (c : Config) (valid : validOf c ≡ true) (steps : List Step) (typed : 
     seat = record { some = first; most = last }
 
     record-is : deskAt p d k ≡ deskFor c d (deskAt r d k)
-    record-is = stands-at c valid steps typed k .desks d seat
+    record-is = stands-at house lawful steps typed k .desks d seat
 
     -- At every place of every run the program shows what the plain machine does,
     pub margin-same : marginOf (deskAt p d k) ≡ shownAs (marginBy c (deskAt r d k))

@@ -9,11 +9,11 @@ use mathlib.Core.List.{List, [], _∷_, map}
 use borrow.Author.Tests.{eq-eqb, ne-eqb, lt-ltb, le-ltb}
 use lib.Dec.{leb}
 use lib.ListN.{length}
-use Rattle.config.specs.Cluster.{validOf}
+use Rattle.config.specs.Cluster.{lawfulOf}
 use Rattle.config.specs.declared.cluster.Config.{Config}
 use Rattle.config.specs.declared.answer.Number.{Number}
 use Rattle.config.specs.declared.answer.Verdict.{Verdict}
-use Rattle.config.proofs.Clusters.{valid-bounds}
+use Rattle.config.proofs.Clusters.{lawful-bounds}
 use Rattle.ledger.specs.Checks.{aboveFloor}
 use Rattle.format.specs.Table.{encodeFields}
 use Rattle.format.proofs.Same.{encode-same}
@@ -45,12 +45,12 @@ use Rattle.runs.proofs.Registers.{higher-for, agree-for, value-back, tr
 
 -- ---- replicas
 
-module _ (c : Config) (valid : validOf c ≡ true) (x : Replica) (h : Held c x) where
+module _ (c : Config) (valid : lawfulOf c ≡ true) (x : Replica) (h : Held c x) where
   pub replica-fits : fits c (replicaFor x) ≡ true
   replica-fits =
       told-fits c (replicaFor x)
       (record {
-        valid = valid;
+        lawful = valid;
         ledger-bounded = ledger-bounded c valid (x .set) (h .range .set);
         ledger-above = above-for c valid (x .set) (h .range .set) (h .sound);
         register-fits = register-fits c (x .register) (h .range .register);
@@ -69,7 +69,7 @@ unfolding join plainJoin
 join-for c x y j =
     ap₂ {C = Kept} (λ l g. record { ledger = l; register = g }) (joined-for (x .set) (y .set) (j .rows)) (higher-for (x .register) (y .register))
 
-pub joinable-for : (c : Config) → validOf c ≡ true → (x y : Replica) → Joins c x y
+pub joinable-for : (c : Config) → lawfulOf c ≡ true → (x y : Replica) → Joins c x y
     → joinable c (replicaFor x) (replicaFor y) ≡ true
 joinable-for c valid x y j =
     told-joinable c (replicaFor x) (replicaFor y)
@@ -108,7 +108,7 @@ kind-small request = omega arith
 kind-small reply = omega arith
 kind-small share = omega arith
 
-module _ (c : Config) (valid : validOf c ≡ true) (m : Message) (h : HeadRange c m) (k : Held c (m .replica)) where
+module _ (c : Config) (valid : lawfulOf c ≡ true) (m : Message) (h : HeadRange c m) (k : Held c (m .replica)) where
   -- a message that is no share has a desk and a round
   asked : (n : Kind) → m .kind ≡ n → (kindNumber n ≡ 3 → ⊥) → Seated (m .desk) × (1 ≤ m .round) × (m .round ≤ 4294967295)
   asked n e f = h .asked (λ s. kinds-apart (sym e ∙ s) f)
@@ -141,7 +141,7 @@ module _ (c : Config) (valid : validOf c ≡ true) (m : Message) (h : HeadRange 
   envelope-typed =
       record {
         kind-fits = kind-small (m .kind);
-        server-fits = omega (arith, h .server, valid-bounds c valid .most);
+        server-fits = omega (arith, h .server, lawful-bounds c valid .most);
         desk-fits = fields-small (m .kind) refl .0;
         round-fits = fields-small (m .kind) refl .1;
         note-fits = omega (arith, h .note);

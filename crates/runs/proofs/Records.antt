@@ -18,7 +18,7 @@ use Rattle.desk.specs.declared.operation.Operation.{Operation}
 use Rattle.desk.specs.declared.record.Desk.{Desk}
 use Rattle.desk.specs.declared.record.Heard.{Heard}
 use Rattle.desk.specs.Operations.{reading, writing, running as runningMode, ended as endedMode, noOperation}
-use Rattle.desk.specs.Desks.{openOf as openDesk}
+use Rattle.desk.specs.Desks.{blankDesk}
 use Rattle.desk.specs.Hears.{marked}
 use Rattle.machine.specs.Sets.{Transfers, count, cell}
 use Rattle.machine.specs.Parties.{Register as PlainRegister, Replica as PlainReplica, Message, kindNumber, bytesOf, Task, by-task, valueOf as taskValue, Phase, by-phase, Activity, idle, running, ended, Desk as PlainDesk, freshDesk}
@@ -122,5 +122,5 @@ pub record Stands (c : Config) (s : PlainState) (t : ProgramState) : Type 0 wher
   pub crashed : t .crashed ≡ s .crashed
   pub desks : (d : ℕ) → Seated d → t .desks d ≡ deskFor c d (s .desks d)
   -- there is no other desk, and no call was made of one
-  pub others : (d : ℕ) → (Seated d → ⊥) → (t .desks d ≡ openDesk (c .n) (c .f) d .desk) × (s .desks d ≡ freshDesk)
+  pub others : (d : ℕ) → (Seated d → ⊥) → (t .desks d ≡ blankDesk) × (s .desks d ≡ freshDesk)
   pub sent : t .sent ≡ map (bytesOf c) (s .sent)

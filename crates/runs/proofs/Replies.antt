@@ -6,7 +6,7 @@ use mathlib.Core.Bool.{Bool, true, false, cond, not}
 use mathlib.Core.List.{_∷_}
 use lib.Dec.{eqb, leb, ltb}
 use Rattle.quorums.proofs.Tests.{leb-not}
-use Rattle.config.specs.Cluster.{validOf, mostStamp}
+use Rattle.config.specs.Cluster.{lawfulOf, mostStamp}
 use Rattle.config.specs.declared.cluster.Config.{Config}
 use Rattle.config.specs.Refusals.{refusal}
 use Rattle.replica.specs.Values.{valueOf as bytesFor}
@@ -132,7 +132,7 @@ module _ (c : Config) (d : ℕ) (y : Replica) (k : ℕ) (o : Operation) where
       by-case (second g) e = finish-for p g e
 
   -- any other reply
-  pub mark-for : validOf c ≡ true → (m : Message) → SetRange c (union (y .set) (m .replica .set))
+  pub mark-for : lawfulOf c ≡ true → (m : Message) → SetRange c (union (y .set) (m .replica .set))
       → heardCalled (markOf (deskFor c d (busy y k o)) (replicaFor (join y (m .replica))) (m .server))
       ≡ calledFor c (deskFor c d) (mark c d (busy y k o) o m)
   unfolding markOf mark mapFor join

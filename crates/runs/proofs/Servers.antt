@@ -8,7 +8,7 @@ use borrow.Author.Tests.{eq-eqb, ne-eqb, le-ltb, ltb-true, leb-true, leb-false}
 use lib.Dec.{eqb, leb, ltb}
 use lib.ListN.{length}
 use Rattle.quorums.proofs.Tests.{eqb-comm, leb-not}
-use Rattle.config.specs.Cluster.{validOf}
+use Rattle.config.specs.Cluster.{lawfulOf}
 use Rattle.config.specs.declared.cluster.Config.{Config}
 use Rattle.config.specs.Refusals.{refusal}
 use Rattle.config.proofs.Clusters.{valid-server}
@@ -62,7 +62,7 @@ reply-for c i old new m place out = by-room (room (length out) place (length (by
         refl
     by-room false e = rw (reply-narrow (serverFor c i old) (serverFor c i new) (bytesOf c m) out place e, e) refl
 
-module _ (c : Config) (valid : validOf c ≡ true) (i : ℕ) (below : i < c .n) (x : Replica) (h : Held c x) where
+module _ (c : Config) (valid : lawfulOf c ≡ true) (i : ℕ) (below : i < c .n) (x : Replica) (h : Held c x) where
   -- the record test passes
   pub server-fits : fits (serverFor c i x) ≡ true
   server-fits = told-fits _ (record { server-in = valid-server c i valid below; replica-fits = replica-fits c valid x h })

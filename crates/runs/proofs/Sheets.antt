@@ -5,7 +5,7 @@ use mathlib.Core.Path.{_≡_, refl, sym, ap, _∙_, subst}
 use mathlib.Core.Bool.{true}
 use mathlib.Core.List.{List, map}
 use mathlib.Core.Option.{Option, none, some, Option·none-ne-some, Option·some-injective}
-use Rattle.config.specs.Cluster.{validOf, aboveOf}
+use Rattle.config.specs.Cluster.{House, configOf, lawfulOf, aboveOf}
 use Rattle.config.specs.declared.cluster.Config.{Config}
 use Rattle.config.specs.declared.answer.Verdict.{Verdict}
 use Rattle.ledger.specs.declared.ledger.Ledger.{Ledger}
@@ -30,7 +30,7 @@ use Rattle.runs.proofs.Steps.{nth-map}
 use Rattle.runs.proofs.Simulation.{stands-at}
 
 -- the ledger for a sound set is sound
-pub sound-for : (c : Config) → validOf c ≡ true → (a : Transfers) → SetRange c a → PlainSound c a → Sound c (ledgerFor a)
+pub sound-for : (c : Config) → lawfulOf c ≡ true → (a : Transfers) → SetRange c a → PlainSound c a → Sound c (ledgerFor a)
 sound-for c valid a w s =
     record {
       weights = all-for c valid a w ∙ s .weights;
@@ -44,9 +44,12 @@ pub record Sent (r : PlainRun) (k q : ℕ) (msg : List ℕ) : Type 0 where
   pub sent : nth (at r k .sent) q ≡ some message
   pub bytes : bytesOf (r .config) message ≡ msg
 
-module _ (c : Config) (valid : validOf c ≡ true) (steps : List Step) (typed : Typed steps) where
+module _ (house : House) (lawful : lawfulOf (configOf house) ≡ true) (steps : List Step) (typed : Typed steps) where
+  abbrev c : Config
+  c = configOf house
+
   abbrev p : ProgramRun
-  p = runOf c steps
+  p = runOf house steps
 
   abbrev r : PlainRun
   r = plainRun p
@@ -55,7 +58,7 @@ module _ (c : Config) (valid : validOf c ≡ true) (steps : List Step) (typed : 
 
   -- what is sent at each place
   pub sent-at : (k q : ℕ) → nth (at p k .sent) q ≡ when (nth (at r k .sent) q) none (λ m. some (bytesOf c m))
-  sent-at k q = ap (λ l. nth l q) (stands-at c valid steps typed k .sent) ∙ nth-map (bytesOf c) (at r k .sent) q
+  sent-at k q = ap (λ l. nth l q) (stands-at house lawful steps typed k .sent) ∙ nth-map (bytesOf c) (at r k .sent) q
 
   -- so all bytes sent are those of a message
   pub sent-from : (k q : ℕ) (msg : List ℕ) → nth (at p k .sent) q ≡ some msg → Sent r k q msg
@@ -68,10 +71,10 @@ module _ (c : Config) (valid : validOf c ≡ true) (steps : List Step) (typed : 
   module _ (k q : ℕ) (m : Message) (e : nth (at r k .sent) q ≡ some m) where
     -- they pass their checks, and carry the ledger for the message's set
     pub sent-passes : receiveOf c (bytesOf c m) .verdict ≡ Verdict.Accepted
-    sent-passes = ap (λ x. x .verdict) (received-for c valid m (message-head c valid steps typed k q m e) (message-held c valid steps typed k q m e))
+    sent-passes = ap (λ x. x .verdict) (received-for c lawful m (message-head house lawful steps typed k q m e) (message-held house lawful steps typed k q m e))
 
     pub sent-carries : ledgerIn c (bytesOf c m) ≡ ledgerFor (m .replica .set)
-    sent-carries = ap (λ x. x .replica .ledger) (received-for c valid m (message-head c valid steps typed k q m e) (message-held c valid steps typed k q m e))
+    sent-carries = ap (λ x. x .replica .ledger) (received-for c lawful m (message-head house lawful steps typed k q m e) (message-held house lawful steps typed k q m e))
 
   -- ---- ledgers
 
@@ -79,14 +82,14 @@ module _ (c : Config) (valid : validOf c ≡ true) (steps : List Step) (typed : 
   set-sound : (k : ℕ) (a : Transfers) (l : Ledger) → PlainFound r k a → ledgerFor a ≡ l → Sound c l
   set-sound k a l f e =
       subst (Sound c) e
-      (sound-for c valid a (found-range c valid (map plain steps) k a f) (plain-sheets c valid (map plain steps) k a f))
+      (sound-for c lawful a (found-range house lawful (map plain steps) k a f) (plain-sheets house lawful (map plain steps) k a f))
 
   found-sound : (k : ℕ) (l : Ledger) → Found p k l → Sound c l
   found-sound k l (by-server i below e) =
-      set-sound k _ l (plain-server i refl) (sym (ap (λ x. x .replica .ledger) (stands-at c valid steps typed k .servers i below)) ∙ e)
+      set-sound k _ l (plain-server i refl) (sym (ap (λ x. x .replica .ledger) (stands-at house lawful steps typed k .servers i below)) ∙ e)
   found-sound k l (by-desk d least most e) =
       set-sound k _ l (plain-desk d refl)
-      (sym (ap (λ x. x .replica .ledger) (stands-at c valid steps typed k .desks d (record { some = least; most = most }))) ∙ e)
+      (sym (ap (λ x. x .replica .ledger) (stands-at house lawful steps typed k .desks d (record { some = least; most = most }))) ∙ e)
   found-sound k l (by-message q msg e f) =
       let s = sent-from k q msg e in
       set-sound k _ l (plain-message q (s .message) (s .sent) refl)

@@ -7,13 +7,15 @@ use mathlib.Core.List.{List, _++_, map}
 use mathlib.Core.Option.{Option, none, some}
 use borrow.Author.Tests.{eqb-true, lt-ltb, ltb-true, le-leb, leb-true}
 use lib.Dec.{eqb, leb, ltb}
-use Rattle.config.specs.Cluster.{validOf, serverOf}
+use Rattle.config.specs.Cluster.{House, configOf, validOf, lawfulOf, serverOf}
+use Rattle.config.specs.Answers.{judged}
+use Rattle.config.proofs.Clusters.{lawful-valid}
 use Rattle.config.specs.declared.cluster.Config.{Config}
 use Rattle.server.specs.declared.record.Server.{Server}
 use Rattle.server.specs.Servers.{openOf as openServer}
 use Rattle.desk.specs.declared.record.Desk.{Desk}
 use Rattle.desk.specs.Operations.{noOperation}
-use Rattle.desk.specs.Desks.{numberLawful, opens, openOf as openDesk}
+use Rattle.desk.specs.Desks.{numberLawful, opens, openOf as openDesk, blankDesk, accepted, refused, freshDesk as freshRecord}
 use Rattle.machine.specs.Parties.{Replica, Message, bytesOf, Desk as PlainDesk, freshDesk}
 use Rattle.machine.specs.Runs.{done, Outcome, put, nth, when, Made, nothing, onServer, mostDesk, onDesk, onCrash, afterServer, afterDesk, afterCrash, take, opened, step, stepFrom, at, answerAt}
 use Rattle.machine.specs.Steps.{PlainRun}
@@ -176,9 +178,12 @@ module _ (c : Config) (s : PlainState) (t : ProgramState) (st : Stands c s t) wh
 
 -- ---- every step of every run
 
-module _ (c : Config) (valid : validOf c ≡ true) (steps : List Step) (typed : Typed steps) where
+module _ (house : House) (lawful : lawfulOf (configOf house) ≡ true) (steps : List Step) (typed : Typed steps) where
+  abbrev c : Config
+  c = configOf house
+
   abbrev p : ProgramRun
-  p = runOf c steps
+  p = runOf house steps
 
   abbrev r : PlainRun
   r = plainRun p
@@ -188,42 +193,42 @@ module _ (c : Config) (valid : validOf c ≡ true) (steps : List Step) (typed : 
     hearable : (d : ℕ) → Hearable c d (at r k .desks d) m
     hearable d =
         record {
-          head = message-head c valid steps typed k q m sent;
-          held = message-held c valid steps typed k q m sent;
-          joins = desk-joins c valid (map plain steps) k q m sent d;
-          current = λ kind desk round. reply-count c valid (map plain steps) d k m (nth-in (at r k .sent) q m sent) kind desk round;
-          known = found-includes c valid (map plain steps) k k _ _ (by-desk d refl) (by-message q m sent refl);
+          head = message-head house lawful steps typed k q m sent;
+          held = message-held house lawful steps typed k q m sent;
+          joins = desk-joins house lawful (map plain steps) k q m sent d;
+          current = λ kind desk round. reply-count house lawful (map plain steps) d k m (nth-in (at r k .sent) q m sent) kind desk round;
+          known = found-includes house lawful (map plain steps) k k _ _ (by-desk d refl) (by-message q m sent refl);
         }
 
   -- one step of the run
   pub step-same : (k : ℕ) (t : ProgramState) → Stands c (at r k) t → (st : Step) → Same c (step r (at r k) (plain st)) (step p t st)
   unfolding take
   step-same k t h (begin d u note) =
-      desk-same c (at r k) t h d _ _ (λ l. begin-for c valid _ d l _ (desk-range c valid steps typed k d) (desk-held c valid steps typed k d) u note)
+      desk-same c (at r k) t h d _ _ (λ l. begin-for c lawful _ d l _ (desk-range house lawful steps typed k d) (desk-held house lawful steps typed k d) u note)
   step-same k t h (ask d i place out) =
-      desk-same c (at r k) t h d _ _ (λ l. ask-for c valid _ d l _ (desk-range c valid steps typed k d) (desk-held c valid steps typed k d) i place out)
+      desk-same c (at r k) t h d _ _ (λ l. ask-for c lawful _ d l _ (desk-range house lawful steps typed k d) (desk-held house lawful steps typed k d) i place out)
   step-same k t h (serve i q place out) =
       message-same c (at r k) t h q _ _
       (λ m sent.
       server-same c (at r k) t h i _ _
       (λ l.
-      serve-for c valid i l _ (server-held c valid steps typed k i) m (message-head c valid steps typed k q m sent) (message-held c valid steps typed k q m sent)
-      (server-joins c valid (map plain steps) k q m sent i)
-      (own-count c valid (map plain steps) k k _ (omega arith) (by-message q m sent refl) i) place out))
+      serve-for c lawful i l _ (server-held house lawful steps typed k i) m (message-head house lawful steps typed k q m sent) (message-held house lawful steps typed k q m sent)
+      (server-joins house lawful (map plain steps) k q m sent i)
+      (own-count house lawful (map plain steps) k k _ (omega arith) (by-message q m sent refl) i) place out))
   step-same k t h (hear d q) =
       message-same c (at r k) t h q _ _
       (λ m sent.
-      desk-same c (at r k) t h d _ _ (λ l. hear-for c valid _ d l _ (desk-range c valid steps typed k d) (desk-held c valid steps typed k d) m (hearable k q m sent d)))
+      desk-same c (at r k) t h d _ _ (λ l. hear-for c lawful _ d l _ (desk-range house lawful steps typed k d) (desk-held house lawful steps typed k d) m (hearable k q m sent d)))
   step-same k t h (hear-lent d q) =
       message-same c (at r k) t h q _ _
       (λ m sent.
       desk-same c (at r k) t h d _ _
-      (λ l. lent-same _ _ ∙ hear-for c valid _ d l _ (desk-range c valid steps typed k d) (desk-held c valid steps typed k d) m (hearable k q m sent d)))
-  step-same k t h (result d) = desk-same c (at r k) t h d _ _ (λ l. result-for c valid _ d l _ (desk-range c valid steps typed k d) (desk-held c valid steps typed k d))
-  step-same k t h (drop d) = desk-same c (at r k) t h d _ _ (λ l. drop-for c valid _ d l _ (desk-range c valid steps typed k d) (desk-held c valid steps typed k d))
+      (λ l. lent-same _ _ ∙ hear-for c lawful _ d l _ (desk-range house lawful steps typed k d) (desk-held house lawful steps typed k d) m (hearable k q m sent d)))
+  step-same k t h (result d) = desk-same c (at r k) t h d _ _ (λ l. result-for c lawful _ d l _ (desk-range house lawful steps typed k d) (desk-held house lawful steps typed k d))
+  step-same k t h (drop d) = desk-same c (at r k) t h d _ _ (λ l. drop-for c lawful _ d l _ (desk-range house lawful steps typed k d) (desk-held house lawful steps typed k d))
   step-same k t h (transfer i j amount) =
-      server-same c (at r k) t h i _ _ (λ l. transfer-for c valid i l _ (server-held c valid steps typed k i) j amount)
-  step-same k t h (share i place out) = server-same c (at r k) t h i _ _ (λ l. share-for c valid i l _ (server-held c valid steps typed k i) place out)
+      server-same c (at r k) t h i _ _ (λ l. transfer-for c lawful i l _ (server-held house lawful steps typed k i) j amount)
+  step-same k t h (share i place out) = server-same c (at r k) t h i _ _ (λ l. share-for c lawful i l _ (server-held house lawful steps typed k i) place out)
   step-same k t h (crash i) = crash-same c (at r k) t h i
 
   -- the step at place k, or none past the end of the list
@@ -235,6 +240,17 @@ module _ (c : Config) (valid : validOf c ≡ true) (steps : List Step) (typed : 
       by-place none = nothing-same c (at r k) t h
       by-place (some st) = step-same k t h st
 
+  -- there is no other desk than those
+  none-opened : (d : ℕ) → (Seated d → ⊥) → openDesk house d .desk ≡ blankDesk
+  unfolding openDesk opens numberLawful
+  none-opened d other = by-tests (leb 1 d) (leb d 65535) (λ a b. other (record { some = leb-true 1 d a; most = leb-true d 65535 b }))
+    where
+      by-tests : (a b : Bool) → (a ≡ true → b ≡ true → ⊥)
+          → judged (cond (cond a b false) (validOf c) false) c (accepted (freshRecord c d)) (λ k. refused k blankDesk) .desk ≡ blankDesk
+      by-tests true true n = absurd (n refl refl)
+      by-tests true false n = refl
+      by-tests false b n = refl
+
   -- fresh records stand for what the machine starts with
   opened-stands : Stands c (opened r) (opened p)
   unfolding openServer openDesk opens serverOf numberLawful
@@ -242,16 +258,16 @@ module _ (c : Config) (valid : validOf c ≡ true) (steps : List Step) (typed : 
       record {
         servers =
             λ i l.
-            rw (valid, lt-ltb i (c .n) l)
+            rw (lawful-valid c lawful, lt-ltb i (c .n) l, lawful)
             (ap₂ {C = Server} (λ a g. record { config = c; number = i; replica = record { ledger = a; register = g } }) (sym fresh-for) (sym start-for));
         crashed = refl;
         desks =
             λ d l.
-            rw (valid, le-leb 1 d (l .some), le-leb d 65535 (l .most))
+            rw (lawful-valid c lawful, le-leb 1 d (l .some), le-leb d 65535 (l .most), lawful)
             (ap₂ {C = Desk}
             (λ a g. record { config = c; number = d; replica = record { ledger = a; register = g }; round = 0; operation = noOperation })
             (sym fresh-for) (sym start-for));
-        others = λ d l. (refl, refl);
+        others = λ d l. (none-opened d l, refl);
         sent = refl;
       }
 

@@ -7,7 +7,7 @@ use mathlib.Core.Bool.{true, false, true≢false}
 use mathlib.Core.List.{List, [], _∷_, _++_, map}
 use mathlib.Core.Option.{Option, some}
 use lib.ListN.{replicate}
-use Rattle.config.specs.Cluster.{level, validOf}
+use Rattle.config.specs.Cluster.{level, lawfulOf}
 use Rattle.config.specs.declared.cluster.Config.{Config}
 use Rattle.machine.specs.Parties.{Register, below, Task, read, write, writes, Result}
 use Rattle.machine.specs.Runs.{nth, told, answerAt}
@@ -29,8 +29,8 @@ use Rattle.runs.proofs.Consequences.{Began, Chosen, current, chose, cho
 abbrev alone : Config
 alone = level 1 0
 
-valid : validOf alone ≡ true
-unfolding validOf
+valid : lawfulOf alone ≡ true
+unfolding lawfulOf
 valid = refl
 
 abbrev buffer : List ℕ

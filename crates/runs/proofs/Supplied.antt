@@ -5,7 +5,7 @@ use mathlib.Core.Path.{_≡_, refl}
 use mathlib.Core.Bool.{true}
 use mathlib.Core.List.{List, map}
 use mathlib.Core.Option.{some}
-use Rattle.config.specs.Cluster.{validOf}
+use Rattle.config.specs.Cluster.{House, configOf, lawfulOf}
 use Rattle.config.specs.declared.cluster.Config.{Config}
 use Rattle.machine.specs.Parties.{Message}
 use Rattle.machine.specs.Runs.{nth, at}
@@ -20,23 +20,26 @@ use Rattle.runs.specs.Runs.{runOf}
 use Rattle.runs.specs.Clauses.{plainRun}
 use Rattle.runs.proofs.Records.{Held}
 
-module _ (c : Config) (valid : validOf c ≡ true) (steps : List Step) (typed : Typed steps) where
+module _ (house : House) (lawful : lawfulOf (configOf house) ≡ true) (steps : List Step) (typed : Typed steps) where
+  abbrev c : Config
+  c = configOf house
+
   abbrev r : PlainRun
-  r = plainRun (runOf c steps)
+  r = plainRun (runOf house steps)
 
   state-range : (k : ℕ) → StateRange c (at r k)
-  state-range k = ranges c valid (map plain steps) typed k
+  state-range k = ranges house lawful (map plain steps) typed k
 
   -- a server
   pub server-held : (k i : ℕ) → Held c (at r k .servers i)
-  server-held k i = record { range = state-range k .servers i; sound = sheets c valid (map plain steps) k _ (by-server i refl) }
+  server-held k i = record { range = state-range k .servers i; sound = sheets house lawful (map plain steps) k _ (by-server i refl) }
 
   -- a desk
   pub desk-range : (k d : ℕ) → DeskRange c (at r k .sent) d (at r k .desks d)
   desk-range k d = state-range k .desks d
 
   pub desk-held : (k d : ℕ) → Held c (at r k .desks d .replica)
-  desk-held k d = record { range = desk-range k d .replica; sound = sheets c valid (map plain steps) k _ (by-desk d refl) }
+  desk-held k d = record { range = desk-range k d .replica; sound = sheets house lawful (map plain steps) k _ (by-desk d refl) }
 
   -- a message
   module _ (k q : ℕ) (m : Message) (sent : nth (at r k .sent) q ≡ some m) where
@@ -47,5 +50,5 @@ module _ (c : Config) (valid : validOf c ≡ true) (steps : List Step) (typed : 
     message-held =
         record {
           range = state-range k .messages m (nth-in (at r k .sent) q m sent) .replica;
-          sound = sheets c valid (map plain steps) k _ (by-message q m sent refl);
+          sound = sheets house lawful (map plain steps) k _ (by-message q m sent refl);
         }

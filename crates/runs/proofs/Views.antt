@@ -9,7 +9,7 @@ use borrow.Author.Tests.{leb-true, leb-false}
 use lib.Dec.{eqb, leb}
 use lib.ListN.{length}
 use Rattle.quorums.specs.Sum.{sum}
-use Rattle.config.specs.Cluster.{validOf}
+use Rattle.config.specs.Cluster.{House, configOf, lawfulOf}
 use Rattle.config.specs.declared.cluster.Config.{Config}
 use Rattle.config.specs.Refusals.{refusal}
 use Rattle.ledger.specs.Ledgers.{countOf}
@@ -52,9 +52,12 @@ either A d f g = by-tests (leb 1 d) (leb d mostDesk) refl refl
     by-tests true false e h = g (λ s. omega (arith, s .most, leb-false d mostDesk h))
     by-tests false b e h = g (λ s. omega (arith, s .some, leb-false 1 d e))
 
-module _ (c : Config) (valid : validOf c ≡ true) (steps : List Step) (typed : Typed steps) where
+module _ (house : House) (lawful : lawfulOf (configOf house) ≡ true) (steps : List Step) (typed : Typed steps) where
+  abbrev c : Config
+  c = configOf house
+
   abbrev p : ProgramRun
-  p = runOf c steps
+  p = runOf house steps
 
   abbrev r : PlainRun
   r = plainRun p
@@ -64,55 +67,44 @@ module _ (c : Config) (valid : validOf c ≡ true) (steps : List Step) (typed : 
   module _ (d k : ℕ) (seated : Seated d) where
     chosen-seated : chosenIn (deskAt p d k .operation) ≡ plainChosen (deskAt r d k .activity)
     chosen-seated =
-        ap (λ x. chosenIn (x .operation)) (stands-at c valid steps typed k .desks d seated)
-        ∙ chosen-for c (deskAt r d k .activity) (desk-range c valid steps typed k d .chosen)
+        ap (λ x. chosenIn (x .operation)) (stands-at house lawful steps typed k .desks d seated)
+        ∙ chosen-for c (deskAt r d k .activity) (desk-range house lawful steps typed k d .chosen)
 
   -- ---- and other numbers: nothing is ever done
 
   module _ (d k : ℕ) (other : Seated d → ⊥) where
-    idle-record : deskAt p d k ≡ openDesk (c .n) (c .f) d .desk
-    idle-record = stands-at c valid steps typed k .others d other .0
+    idle-record : deskAt p d k ≡ blankDesk
+    idle-record = stands-at house lawful steps typed k .others d other .0
 
     idle-desk : deskAt r d k ≡ plainFresh
-    idle-desk = stands-at c valid steps typed k .others d other .1
-
-    -- there is no such desk
-    none-opened : openDesk (c .n) (c .f) d .desk ≡ blankDesk
-    unfolding openDesk opens numberLawful
-    none-opened = by-tests (leb 1 d) (leb d 65535) (λ a b. other (record { some = leb-true 1 d a; most = leb-true d 65535 b }))
-      where
-        by-tests : (a b : Bool) → (a ≡ true → b ≡ true → ⊥)
-            → cond (cond (cond a b false) (validOf c) false) (accepted (freshDesk c d)) (refused (refusal 1) blankDesk) .desk ≡ blankDesk
-        by-tests true true n = absurd (n refl refl)
-        by-tests true false n = refl
-        by-tests false b n = refl
+    idle-desk = stands-at house lawful steps typed k .others d other .1
 
     chosen-none : chosenIn (deskAt p d k .operation) ≡ plainChosen (deskAt r d k .activity)
-    chosen-none = rw (idle-record ∙ none-opened, idle-desk) refl
+    chosen-none = rw (idle-record, idle-desk) refl
 
     transfers-none : sum 16 (countOf (deskAt p d k .replica .ledger)) ≡ length (deskAt r d k .replica .set)
     unfolding sum
-    transfers-none = rw (idle-record ∙ none-opened, idle-desk) refl
+    transfers-none = rw (idle-record, idle-desk) refl
 
   -- ---- the whole
 
   gives-same : (d k : ℕ) → viewOf p .gives d k ≡ plainView r .gives d k
-  gives-same d k = step-same c valid steps typed k (at p k) (stands-at c valid steps typed k) (result d) .answer
+  gives-same d k = step-same house lawful steps typed k (at p k) (stands-at house lawful steps typed k) (result d) .answer
 
   chosen-same : (d k : ℕ) → viewOf p .chosen d k ≡ plainView r .chosen d k
   chosen-same d k = either _ d (chosen-seated d k) (chosen-none d k)
 
   holds-same : (d k : ℕ) → viewOf p .holds d k ≡ plainView r .holds d k
-  holds-same d k = either _ d (transfers-for c valid steps typed d k) (transfers-none d k)
+  holds-same d k = either _ d (transfers-for house lawful steps typed d k) (transfers-none d k)
 
   pub view-same : viewOf p ≡ plainView r
   view-same =
       λ i.
       record {
         steps = map plain steps;
-        answers = λ k. answer-at c valid steps typed k i;
+        answers = λ k. answer-at house lawful steps typed k i;
         gives = λ d k. gives-same d k i;
         chosen = λ d k. chosen-same d k i;
-        brings = λ d k. first-for c valid steps typed d k i;
+        brings = λ d k. first-for house lawful steps typed d k i;
         holds = λ d k. holds-same d k i;
       }

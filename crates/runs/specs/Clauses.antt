@@ -7,7 +7,7 @@ use mathlib.Core.List.{List, map}
 use mathlib.Core.Option.{some}
 use lib.IntN.{pos}
 use Rattle.quorums.specs.Sum.{size}
-use Rattle.config.specs.Cluster.{validOf, totalOf, aboveOf}
+use Rattle.config.specs.Cluster.{House, houseFault, totalOf, aboveOf}
 use Rattle.config.specs.declared.cluster.Config.{Config}
 use Rattle.config.specs.declared.answer.Verdict.{Verdict}
 use Rattle.ledger.specs.declared.ledger.Ledger.{Ledger}
@@ -15,7 +15,7 @@ use Rattle.ledger.specs.Maps.{named}
 use Rattle.ledger.specs.Weights.{weightOf, allOf, quorumOf}
 use Rattle.message.specs.Answers.{receiveOf}
 use Rattle.machine.specs.Parties.{bytesOf}
-use Rattle.machine.specs.Runs.{nth, mostDesk, at, answersOf}
+use Rattle.machine.specs.Runs.{config, nth, mostDesk, at, answersOf}
 use Rattle.machine.specs.Steps.{machine, PlainRun, runOf as plainRunOf}
 use Rattle.machine.specs.Views.{View, Order, Values, Results, Tags, Restarts}
 use Rattle.machine.specs.Seen.{viewOf as plainViewOf}
@@ -28,7 +28,7 @@ use Rattle.runs.specs.Seen.{ledgerIn, viewOf}
 
 -- the plain machine's run of the same steps, of whose buffers it knows the lengths alone
 abbrev pub plainRun : ProgramRun → PlainRun
-plainRun r = plainRunOf machine (r .config) (map plain (r .steps))
+plainRun r = plainRunOf machine (r .house) (map plain (r .steps))
 
 -- what is seen of it
 abbrev pub plainView : ProgramRun → View
@@ -38,9 +38,9 @@ plainView r = plainViewOf (plainRun r)
 
 -- a ledger that is held by a server or a desk, or was sent, after the first k steps
 pub data Found (r : ProgramRun) (k : ℕ) (l : Ledger) : Type 0 where
-  by-server : (i : ℕ) → i < r .config .n → at r k .servers i .replica .ledger ≡ l → Found r k l
+  by-server : (i : ℕ) → i < config r .n → at r k .servers i .replica .ledger ≡ l → Found r k l
   by-desk : (d : ℕ) → 1 ≤ d → d ≤ mostDesk → at r k .desks d .replica .ledger ≡ l → Found r k l
-  by-message : (p : ℕ) (msg : List ℕ) → nth (at r k .sent) p ≡ some msg → ledgerIn (r .config) msg ≡ l → Found r k l
+  by-message : (p : ℕ) (msg : List ℕ) → nth (at r k .sent) p ≡ some msg → ledgerIn (config r) msg ≡ l → Found r k l
 
 -- the weights total W, each is above the floor, and any n − f servers are a quorum
 pub record Sound (c : Config) (l : Ledger) : Type 0 where
@@ -50,8 +50,8 @@ pub record Sound (c : Config) (l : Ledger) : Type 0 where
 
 -- So it is on every sheet held or sent; and every message sent passes its checks.
 pub record Sheets (r : ProgramRun) : Type 0 where
-  pub sound : (k : ℕ) (l : Ledger) → Found r k l → Sound (r .config) l
-  pub readable : (k p : ℕ) (msg : List ℕ) → nth (at r k .sent) p ≡ some msg → receiveOf (r .config) msg .verdict ≡ Verdict.Accepted
+  pub sound : (k : ℕ) (l : Ledger) → Found r k l → Sound (config r) l
+  pub readable : (k p : ℕ) (msg : List ℕ) → nth (at r k .sent) p ≡ some msg → receiveOf (config r) msg .verdict ≡ Verdict.Accepted
 
 -- ---- the whole
 
@@ -61,7 +61,7 @@ pub record Sheets (r : ProgramRun) : Type 0 where
 pub record Demand3 (r : ProgramRun) : Type 0 where
   -- "Every answer and every sent byte equals that of the plain machine in paper 01."
   pub answers : answersOf r ≡ answersOf (plainRun r)
-  pub bytes : (k : ℕ) → at r k .sent ≡ map (bytesOf (r .config)) (at (plainRun r) k .sent)
+  pub bytes : (k : ℕ) → at r k .sent ≡ map (bytesOf (config r)) (at (plainRun r) k .sent)
   -- what is seen of the run is the machine's too: an operation's tag, what it tells, and the transfers that its desk is brought and holds
   pub seen : viewOf r ≡ plainView r
   -- "If operation A ended before B began, B's tag is no lower than A's, and higher where B writes."
@@ -73,10 +73,12 @@ pub record Demand3 (r : ProgramRun) : Type 0 where
   pub tags : Tags (plainView r)
   -- "The restarts reported are exactly those made, and at most the transfers that the desk's sheet gained during that operation."
   pub restarts : Restarts (plainView r)
-  -- "On every sheet held or sent the weights total 1,000 for each server, each is above the floor, and any n-f servers are a quorum."
+  -- "On every sheet held or sent the weights total 1,000 for each server, each is above the floor, and any n-f servers are a quorum", where "the total in
+  -- the runs is W instead of 1,000 for each server" (paper 02, N2).
   pub sheets : Sheets r
   pub sets : PlainSheets (plainRun r)
 
--- The theorem: for every cluster within bounds, and every list of steps whose values are made of bytes and whose notes have 32 bits.
+-- The theorem: for every house that opening takes (n, f and a list of start weights without a fault), and every list of steps whose values are made of bytes
+-- and whose notes have 32 bits.
 abbrev pub ForEveryRun : Type 0
-ForEveryRun = (c : Config) → validOf c ≡ true → (steps : List Step) → Typed steps → Demand3 (runOf c steps)
+ForEveryRun = (h : House) → houseFault h ≡ 0 → (steps : List Step) → Typed steps → Demand3 (runOf h steps)

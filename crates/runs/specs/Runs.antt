@@ -3,7 +3,7 @@
 -- sent.
 use Prim.Native.Nat.{ℕ}
 use mathlib.Core.List.{List}
-use Rattle.config.specs.declared.cluster.Config.{Config}
+use Rattle.config.specs.Cluster.{House}
 use Rattle.server.specs.declared.record.Server.{Server}
 use Rattle.server.specs.Servers.{openOf as openServer}
 use Rattle.desk.specs.declared.record.Desk.{Desk}
@@ -29,13 +29,13 @@ asked (crash i) = call (crashing i)
 abbrev pub ProgramRun : Type 0
 ProgramRun = Run Server Desk (List ℕ) Step
 
--- the run of the program: every record is as `open` hands it out
-abbrev pub runOf : Config → List Step → ProgramRun
-runOf c steps =
+-- the run of the program, which is opened with a house (paper 02, N2): every record is as `open` hands it out
+abbrev pub runOf : House → List Step → ProgramRun
+runOf h steps =
     record {
-      config = c;
-      server = λ i. openServer (c .n) (c .f) i .server;
-      desk = λ d. openDesk (c .n) (c .f) d .desk;
+      house = h;
+      server = λ i. openServer h i .server;
+      desk = λ d. openDesk h d .desk;
       asks = asked;
       steps = steps;
     }

@@ -12,7 +12,7 @@ use Rattle.message.specs.Answers.{receiveOf}
 use Rattle.desk.specs.declared.operation.Operation.{Operation}
 use Rattle.desk.specs.Operations.{running}
 use Rattle.machine.specs.Parties.{Register}
-use Rattle.machine.specs.Runs.{when, step, at, answerAt, deskAt}
+use Rattle.machine.specs.Runs.{config, when, step, at, answerAt, deskAt}
 use Rattle.machine.specs.Views.{View}
 use Rattle.machine.specs.Seen.{hears, heard}
 use Rattle.runs.specs.Steps.{result, plain}
@@ -44,6 +44,6 @@ viewOf r =
       answers = answerAt r;
       gives = λ d k. step r (at r k) (result d) .answer;
       chosen = λ d k. chosenIn (deskAt r d k .operation);
-      brings = λ d k. when (hears r d k) 0 (λ msg. sum 16 (λ i. countOf (ledgerIn (r .config) msg) i - mostOf (r .config) (heard r d k) i));
+      brings = λ d k. when (hears r d k) 0 (λ msg. sum 16 (λ i. countOf (ledgerIn (config r) msg) i - mostOf (config r) (heard r d k) i));
       holds = λ d k. sum 16 (countOf (deskAt r d k .replica .ledger));
     }
