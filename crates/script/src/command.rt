@@ -1,4 +1,6 @@
 // Commands: what a line of a script asks for.
+use super::house::House;
+use super::house::List;
 use super::text::MOST_BYTES;
 
 // What a desk is asked to do. A begin has its note; an ask has the server, and the place and the length of the buffer.
@@ -32,13 +34,13 @@ pub enum Query {
     Value,
 }
 
-// What a line comes to. It may also say nothing, be past the program's bounds, or not be readable.
+// What a line comes to. It may also say nothing, be past the program's bounds, or not be readable. The house of House and of Message stands beside it.
 pub enum Command {
-    House { n: u64, f: u64 },
+    House,
     Desk(u64, DeskCall),
     Server(u64, ServerCall),
     Query(Query),
-    Message { n: u64, f: u64 },
+    Message,
     Nothing,
     Beyond,
     Unreadable,
@@ -47,28 +49,43 @@ pub enum Command {
 // The command of a line that has the form at a place of the table; `x[k]` is the number that word k of the line stands for.
 pub(crate) fn command_of(place: usize, x: [u64; 5]) -> Command {
     match place {
-        0 => Command::House { n: x[1], f: x[2] },
-        1 => begin(x[1], x[3], false),
-        2 => begin(x[1], x[3], true),
-        3 => within(x[4], Command::Desk(x[1], DeskCall::Ask(x[2], x[3], x[4]))),
-        4 => within(x[3], Command::Server(x[1], ServerCall::Share(x[2], x[3]))),
-        5 => within(x[3], Command::Server(x[1], ServerCall::Serve(x[2], x[3]))),
-        6 => Command::Desk(x[1], DeskCall::Hear),
-        7 => Command::Desk(x[1], DeskCall::Result),
-        8 => Command::Desk(x[1], DeskCall::Margin),
-        9 => Command::Desk(x[1], DeskCall::Drop),
-        10 => Command::Server(x[1], ServerCall::Transfer(x[2], x[3])),
-        11 => Command::Server(x[1], ServerCall::Crash),
-        12 => Command::Query(Query::Check),
-        13 => Command::Query(Query::Weight(x[1])),
-        14 => Command::Query(Query::Quorum(x[1])),
-        15 => Command::Query(Query::Seats),
-        16 => named(x[1]),
-        17 => Command::Query(Query::Value),
-        18 => Command::Server(x[2], ServerCall::Record),
-        19 => Command::Desk(x[2], DeskCall::Record),
-        20 => Command::Message { n: x[1], f: x[2] },
+        0 | 1 => Command::House,
+        2 => begin(x[1], x[3], false),
+        3 => begin(x[1], x[3], true),
+        4 => within(x[4], Command::Desk(x[1], DeskCall::Ask(x[2], x[3], x[4]))),
+        5 => within(x[3], Command::Server(x[1], ServerCall::Share(x[2], x[3]))),
+        6 => within(x[3], Command::Server(x[1], ServerCall::Serve(x[2], x[3]))),
+        7 => Command::Desk(x[1], DeskCall::Hear),
+        8 => Command::Desk(x[1], DeskCall::Result),
+        9 => Command::Desk(x[1], DeskCall::Margin),
+        10 => Command::Desk(x[1], DeskCall::Drop),
+        11 => Command::Server(x[1], ServerCall::Transfer(x[2], x[3])),
+        12 => Command::Server(x[1], ServerCall::Crash),
+        13 => Command::Query(Query::Check),
+        14 => Command::Query(Query::Weight(x[1])),
+        15 => Command::Query(Query::Quorum(x[1])),
+        16 => Command::Query(Query::Seats),
+        17 => named(x[1]),
+        18 => Command::Query(Query::Value),
+        19 => Command::Server(x[2], ServerCall::Record),
+        20 => Command::Desk(x[2], DeskCall::Record),
+        21 | 22 => Command::Message,
         _ => Command::Unreadable,
+    }
+}
+
+// The house of a line that has the form at a place of the table, by its second and third word: with the line's list, where the form has one, and level
+// where it has none.
+pub(crate) fn house_of(place: usize, x: [u64; 5], list: List) -> House {
+    let starts = list.entries;
+    match place {
+        1 | 21 => House {
+            n: x[1],
+            f: x[2],
+            starts,
+            count: list.count,
+        },
+        _ => House::level(x[1], x[2]),
     }
 }
 

@@ -1,6 +1,7 @@
-// The lines of a script (docs/SCRIPTS.md): what a line asks for, as a command, and the bytes that it brings.
+// The lines of a script (docs/SCRIPTS.md): what a line asks for, as a command, the house that it gives, and the bytes that it brings.
 mod command;
 mod forms;
+mod house;
 mod line;
 mod text;
 
@@ -8,6 +9,7 @@ pub use command::Command;
 pub use command::DeskCall;
 pub use command::Query;
 pub use command::ServerCall;
+pub use house::House;
 pub use line::Understood;
 pub use line::understand;
 pub use text::MOST_BYTES;

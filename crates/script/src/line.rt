@@ -2,6 +2,7 @@
 use super::command::Command;
 use super::forms::FORMS;
 use super::forms::parse;
+use super::house::House;
 use super::text::MOST_BYTES;
 use super::text::Parsed;
 use super::text::SPACE;
@@ -15,9 +16,10 @@ ghost use lib.ListN.{length};
 // The most characters of a line.
 const MOST_LINE: usize = 8192;
 
-// What a line asks for, and how many bytes it has.
+// What a line asks for, the house that it gives, which means nothing where the command takes none, and how many bytes it has.
 pub struct Understood {
     pub command: Command,
+    pub house: House,
     pub count: usize,
 }
 
@@ -26,36 +28,47 @@ pub fn understand(line: &[u8], out: &mut [u8; SPACE]) -> Understood
     ensures { λ r. ⌜ (r .count ≤ 2048) × (length (now (out .exit)) ≡ length (now (out .entry))) ⌝ }
 {
     if MOST_LINE < line.len() {
-        return without_bytes(Command::Beyond);
+        return alone(Command::Beyond);
     }
     let end = find(line, 0, b'#');
     let text = &line[..end];
     if skip(text, 0, true) == text.len() {
-        return without_bytes(Command::Nothing);
+        return alone(Command::Nothing);
     }
     let asked = parse(&FORMS, text);
     let command = asked.command;
+    let house = asked.house;
     let from = asked.from;
     if text.len() <= from {
-        return without_bytes(command);
+        return Understood {
+            command,
+            house,
+            count: 0,
+        };
     }
     if let Command::Unreadable = command {
-        return without_bytes(command);
+        return alone(command);
     }
     let Parsed::Value(count) = decode(text, from, out) else {
-        return without_bytes(Command::Unreadable);
+        return alone(Command::Unreadable);
     };
     if (MOST_BYTES as u64) < count {
-        return without_bytes(Command::Beyond);
+        return alone(Command::Beyond);
     }
     Understood {
         command,
+        house,
         count: count as usize,
     }
 }
 
-fn without_bytes(command: Command) -> Understood
+// A command with no house and no bytes.
+fn alone(command: Command) -> Understood
     ensures { λ r. ⌜ r .count ≡ 0 ⌝ }
 {
-    Understood { command, count: 0 }
+    Understood {
+        command,
+        house: House::level(0, 0),
+        count: 0,
+    }
 }

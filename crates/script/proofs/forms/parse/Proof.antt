@@ -32,6 +32,9 @@ meet-requires c κs = search needs
 command-of-requires : tie.Need-command-of-requires Inv-loop μ-loop
 command-of-requires c κs = search needs
 
+house-of-requires : tie.Need-house-of-requires Inv-loop μ-loop
+house-of-requires c κs = search needs
+
 returns : tie.Need-returns Inv-loop μ-loop
 returns c = search needs
 
@@ -46,6 +49,9 @@ loop-less c = search needs
 
 loop-again : tie.Need-loop-again Inv-loop μ-loop
 loop-again c = search needs
+
+level-requires : tie.Need-level-requires Inv-loop μ-loop
+level-requires c κs = search needs
 
 returns-2 : tie.Need-returns-2 Inv-loop μ-loop
 returns-2 c = search needs
@@ -63,9 +69,11 @@ parse-spec =
     part-meet-end
     meet-requires
     command-of-requires
+    house-of-requires
     returns
     add-at
     add-place
     loop-less
     loop-again
+    level-requires
     returns-2)

@@ -6,8 +6,8 @@ use borrow.Author.Needs.{needs}
 use Rattle.script.proofs.line.understand.Statement.{statement}
 use Rattle.script.proofs.line.understand.Tie as tie
 
-without-bytes-requires : tie.Need-without-bytes-requires
-without-bytes-requires c κs = search needs
+alone-requires : tie.Need-alone-requires
+alone-requires c κs = search needs
 
 returns : tie.Need-returns
 returns c = search needs
@@ -21,8 +21,8 @@ slice-aggregate-text c = sym (length-take-le _ _ (omega (arith, c .before .find 
 skip-requires : tie.Need-skip-requires
 skip-requires c κs = search needs
 
-without-bytes-requires-2 : tie.Need-without-bytes-requires-2
-without-bytes-requires-2 c κs = search needs
+alone-requires-2 : tie.Need-alone-requires-2
+alone-requires-2 c κs = search needs
 
 returns-2 : tie.Need-returns-2
 returns-2 c = search needs
@@ -33,17 +33,14 @@ slice-aggregate-parse c = search needs
 parse-requires : tie.Need-parse-requires
 parse-requires c κs = search needs
 
-without-bytes-requires-3 : tie.Need-without-bytes-requires-3
-without-bytes-requires-3 c κs = search needs
-
 returns-3 : tie.Need-returns-3
 returns-3 c = search needs
 
 enum-told : tie.Need-enum-told
 enum-told c = search needs
 
-without-bytes-requires-4 : tie.Need-without-bytes-requires-4
-without-bytes-requires-4 c κs = search needs
+alone-requires-3 : tie.Need-alone-requires-3
+alone-requires-3 c κs = search needs
 
 returns-4 : tie.Need-returns-4
 returns-4 c = search needs
@@ -57,14 +54,14 @@ enum-known-count c = search needs
 enum-told-2 : tie.Need-enum-told-2
 enum-told-2 c = search needs
 
-without-bytes-requires-5 : tie.Need-without-bytes-requires-5
-without-bytes-requires-5 c κs = search needs
+alone-requires-4 : tie.Need-alone-requires-4
+alone-requires-4 c κs = search needs
 
 returns-5 : tie.Need-returns-5
 returns-5 c = search needs
 
-without-bytes-requires-6 : tie.Need-without-bytes-requires-6
-without-bytes-requires-6 c κs = search needs
+alone-requires-5 : tie.Need-alone-requires-5
+alone-requires-5 c κs = search needs
 
 returns-6 : tie.Need-returns-6
 returns-6 c = search needs
@@ -76,25 +73,24 @@ pub understand-spec : {M : Type 1} → statement M
 understand-spec =
     tie.close
     (tie.spec
-    without-bytes-requires
+    alone-requires
     returns
     find-requires
     slice-aggregate-text
     skip-requires
-    without-bytes-requires-2
+    alone-requires-2
     returns-2
     slice-aggregate-parse
     parse-requires
-    without-bytes-requires-3
     returns-3
     enum-told
-    without-bytes-requires-4
+    alone-requires-3
     returns-4
     decode-requires
     enum-known-count
     enum-told-2
-    without-bytes-requires-5
+    alone-requires-4
     returns-5
-    without-bytes-requires-6
+    alone-requires-5
     returns-6
     returns-7)
