@@ -1,11 +1,13 @@
 // The cluster that a script drives: its servers, and the desks that it has named.
-use config::Config;
+use super::house::open_desk;
+use super::house::open_server;
 use desk::Desk;
+use script::House;
 use server::Server;
 
 // Server i stands at i. Desk `numbers[k]` stands at k, and none where that is 0. Before an accepted `house` n is 0.
 pub(crate) struct Cluster {
-    pub config: Config,
+    pub house: House,
     pub servers: [Server; 16],
     pub crashed: [bool; 16],
     pub numbers: [u64; 16],
@@ -13,13 +15,13 @@ pub(crate) struct Cluster {
 }
 
 impl Cluster {
-    // A cluster with every server fresh and no desk. Where n and f are out of bounds no record of it is accepted.
-    pub(crate) fn fresh(n: u64, f: u64) -> Cluster {
-        let servers = fresh_servers(n, f);
-        let opened = Desk::open(n, f, 0);
+    // A cluster with every server fresh and no desk. Where the house is refused no record of it is accepted.
+    pub(crate) fn fresh(house: House) -> Cluster {
+        let servers = fresh_servers(house);
+        let opened = open_desk(house, 0);
         let desk = opened.desk;
         Cluster {
-            config: Config::of(n, f),
+            house,
             servers,
             crashed: [false; 16],
             numbers: [0; 16],
@@ -28,13 +30,13 @@ impl Cluster {
     }
 }
 
-fn fresh_servers(n: u64, f: u64) -> [Server; 16] {
-    let first = Server::open(n, f, 0);
+fn fresh_servers(house: House) -> [Server; 16] {
+    let first = open_server(house, 0);
     let server = first.server;
     let mut servers = [server; 16];
     let mut i: usize = 1;
     while i < 16 {
-        let opened = Server::open(n, f, i as u64);
+        let opened = open_server(house, i as u64);
         let server = opened.server;
         servers[i] = server;
         i += 1;

@@ -2,6 +2,7 @@
 mod buffer;
 mod cluster;
 mod desks;
+mod house;
 mod print;
 mod queries;
 mod reading;
@@ -13,6 +14,7 @@ mod writing;
 use cluster::Cluster;
 use libc::STDIN_FILENO;
 use run::answer_line;
+use script::House;
 ghost use mathlib.Core.Path.{_≡_};
 ghost use lib.ListN.{length};
 
@@ -71,7 +73,7 @@ fn take(cluster: Cluster, line: &mut [u8], filled: &mut usize, read: &[u8]) -> C
 fn main() {
     let mut line = empty_line();
     let mut filled: usize = 0;
-    let mut cluster = Cluster::fresh(0, 0);
+    let mut cluster = Cluster::fresh(House::level(0, 0));
     let mut turns = u64::MAX;
     while turns > 0 {
         let mut buffer = io::buffer();

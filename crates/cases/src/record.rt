@@ -34,6 +34,8 @@ fn replica_fields(config: Config, replica: Replica) {
     let ledger = replica.ledger;
     item(b" n ", config.n);
     item(b" f ", config.f);
+    word(b" starts ");
+    starts(config);
     item(b" tag ", register.stamp as u64);
     item(b" ", register.desk as u64);
     word(b" value ");
@@ -84,6 +86,29 @@ fn kind(kind: u16) {
         1 => word(b"read"),
         _ => word(b"write"),
     }
+}
+
+// The start weight of each server, with commas between them; `-` for none.
+fn starts(config: Config) {
+    let n = config.n;
+    if n == 0 {
+        word(b"-");
+    }
+    let mut server: u64 = 0;
+    while server < 16 {
+        if server < n {
+            start(server, config.start_at(server));
+        }
+        server += 1;
+    }
+}
+
+// A comma stands before each but the first.
+fn start(server: u64, weight: u64) {
+    if 0 < server {
+        word(b",");
+    }
+    number(weight);
 }
 
 // The bytes of a value.

@@ -2,22 +2,24 @@
 use super::cluster::Cluster;
 use super::cluster::place_for;
 use super::desks::call_desk;
+use super::house::config_of;
+use super::house::open_desk;
+use super::house::open_server;
 use super::print::refusal;
 use super::print::verdict;
 use super::print::word;
 use super::queries::ask_about;
 use super::reading::answer_message;
 use super::servers::call_server;
-use config::Config;
 use config::Refusal;
 use config::Verdict;
 use desk::Desk;
 use script::Command;
 use script::DeskCall;
+use script::House;
 use script::SPACE;
 use script::ServerCall;
 use script::understand;
-use server::Server;
 ghost use Prim.Native.Nat.{_≤_, _<_};
 ghost use lib.ListN.{length};
 
@@ -26,27 +28,28 @@ pub(crate) fn answer_line(cluster: Cluster, line: &[u8]) -> Cluster {
     let mut bytes: [u8; SPACE] = [0; SPACE];
     let read = understand(line, &mut bytes);
     let command = read.command;
+    let given = read.house;
     if let Command::Nothing = command {
         return cluster;
     }
     let longer = read.count + 1;
-    let after = obey(cluster, command, &bytes[..longer]);
+    let after = obey(cluster, command, given, &bytes[..longer]);
     word(b"\n");
     after
 }
 
-// The line's bytes are `longer` less its last one.
-fn obey(cluster: Cluster, command: Command, longer: &[u8]) -> Cluster
+// The line's house is `given`, where it gives one, and its bytes are `longer` less its last one.
+fn obey(cluster: Cluster, command: Command, given: House, longer: &[u8]) -> Cluster
     requires { ⌜ (1 ≤ length (now longer)) × (length (now longer) ≤ 2049) ⌝ }
 {
     let end = longer.len() - 1;
     let bytes = &longer[..end];
     match command {
-        Command::House { n, f } => return house(cluster, n, f),
+        Command::House => return house(cluster, given),
         Command::Desk(number, call) => return on_desk(cluster, number, call, bytes),
         Command::Server(number, call) => return on_server(cluster, number, call, bytes),
-        Command::Query(query) => ask_about(cluster.config, query, bytes),
-        Command::Message { n, f } => answer_message(Config::of(n, f), longer),
+        Command::Query(query) => ask_about(config_of(cluster.house), query, bytes),
+        Command::Message => answer_message(config_of(given), longer),
         Command::Nothing => {}
         Command::Beyond => word(b"bounds"),
         Command::Unreadable => word(b"what"),
@@ -54,21 +57,20 @@ fn obey(cluster: Cluster, command: Command, longer: &[u8]) -> Cluster
     cluster
 }
 
-// A fresh cluster, or the one before where the numbers are refused.
-fn house(cluster: Cluster, n: u64, f: u64) -> Cluster {
-    let first = Server::open(n, f, 0);
+// A fresh cluster, or the one before where the house is refused.
+fn house(cluster: Cluster, given: House) -> Cluster {
+    let first = open_server(given, 0);
     let told = first.verdict;
     verdict(told);
     match told {
-        Verdict::Accepted => Cluster::fresh(n, f),
+        Verdict::Accepted => Cluster::fresh(given),
         Verdict::Refused(_) => cluster,
     }
 }
 
 // A desk is opened when it is first named.
 fn on_desk(mut cluster: Cluster, number: u64, call: DeskCall, bytes: &[u8]) -> Cluster {
-    let config = cluster.config;
-    let opened = Desk::open(config.n, config.f, number);
+    let opened = open_desk(cluster.house, number);
     let told = opened.verdict;
     let Verdict::Accepted = told else {
         verdict(told);
@@ -96,7 +98,7 @@ fn held_or(number: u64, held: Desk, fresh: Desk) -> Desk {
 }
 
 fn on_server(cluster: Cluster, number: u64, call: ServerCall, bytes: &[u8]) -> Cluster {
-    let config = cluster.config;
+    let config = config_of(cluster.house);
     if !config.has(number) {
         refusal(Refusal::BadHouse);
         return cluster;

@@ -14,6 +14,9 @@ abbrev μ-loop : tie.MeasureT-loop
 empty-line-requires : tie.Need-empty-line-requires Inv-loop μ-loop
 empty-line-requires c κs = search needs
 
+level-requires : tie.Need-level-requires Inv-loop μ-loop
+level-requires c κs = search needs
+
 fresh-requires : tie.Need-fresh-requires Inv-loop μ-loop
 fresh-requires c κs = search needs
 
@@ -75,6 +78,7 @@ main-spec =
     Inv-loop
     μ-loop
     empty-line-requires
+    level-requires
     fresh-requires
     loop-holds
     buffer-requires

@@ -5,19 +5,19 @@ use Rattle.cases.proofs.cluster.fresh_servers.Statement.{statement}
 use Rattle.cases.proofs.cluster.fresh_servers.Tie as tie
 
 abbrev Inv-loop : tie.InvT-loop
-Inv-loop n f servers₀ i₀ servers i = i ≤ 16
+Inv-loop house servers₀ i₀ servers i = i ≤ 16
 
 abbrev μ-loop : tie.MeasureT-loop
-μ-loop n f servers₀ i₀ servers i = 16 - i
+μ-loop house servers₀ i₀ servers i = 16 - i
 
-open-requires : tie.Need-open-requires Inv-loop μ-loop
-open-requires c κs = search needs
+open-server-requires : tie.Need-open-server-requires Inv-loop μ-loop
+open-server-requires c κs = search needs
 
 loop-holds : tie.Need-loop-holds Inv-loop μ-loop
 loop-holds c = search needs
 
-open-requires-2 : tie.Need-open-requires-2 Inv-loop μ-loop
-open-requires-2 c κs = search needs
+open-server-requires-2 : tie.Need-open-server-requires-2 Inv-loop μ-loop
+open-server-requires-2 c κs = search needs
 
 mul-servers : tie.Need-mul-servers Inv-loop μ-loop
 mul-servers c = search needs
@@ -43,9 +43,9 @@ fresh-servers-spec =
     (tie.spec
     Inv-loop
     μ-loop
-    open-requires
+    open-server-requires
     loop-holds
-    open-requires-2
+    open-server-requires-2
     mul-servers
     array-set-from-servers
     add-i

@@ -24,10 +24,10 @@ array-share-prefix-bytes : tie.Need-array-share-prefix-bytes
 array-share-prefix-bytes c = search needs
 
 slice-aggregate-obey : tie.Need-slice-aggregate-obey
-slice-aggregate-obey c = sym (length-take-le _ _ (omega (arith, c .before .before .before .understand .ensures .0, c .before .before .before .understand .ensures .1 ∙ length-replicate {A = ℕ} 2049 0)))
+slice-aggregate-obey c = sym (length-take-le _ _ (omega (arith, c .before .before .before .before .understand .ensures .0, c .before .before .before .before .understand .ensures .1 ∙ length-replicate {A = ℕ} 2049 0)))
 
 obey-requires : tie.Need-obey-requires
-obey-requires c κs = (omega (arith, slice-aggregate-obey c), omega (arith, slice-aggregate-obey c, c .before .before .before .understand .ensures .0))
+obey-requires c κs = (omega (arith, slice-aggregate-obey c), omega (arith, slice-aggregate-obey c, c .before .before .before .before .understand .ensures .0))
 
 slice-aggregate-word : tie.Need-slice-aggregate-word
 slice-aggregate-word c = search needs

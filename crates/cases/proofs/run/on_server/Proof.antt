@@ -6,6 +6,9 @@ use borrow.Author.Needs.{needs}
 use Rattle.cases.proofs.run.on_server.Statement.{statement}
 use Rattle.cases.proofs.run.on_server.Tie as tie
 
+config-of-requires : tie.Need-config-of-requires
+config-of-requires c κs = search needs
+
 has-requires : tie.Need-has-requires
 has-requires c κs = search needs
 
@@ -23,4 +26,11 @@ returns-2 c = search needs
 
 pub on-server-spec : {M : Type 1} → statement M
 on-server-spec =
-    tie.close (tie.spec has-requires refusal-requires returns at-server-requires returns-2)
+    tie.close
+    (tie.spec
+    config-of-requires
+    has-requires
+    refusal-requires
+    returns
+    at-server-requires
+    returns-2)
