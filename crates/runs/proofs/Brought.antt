@@ -144,7 +144,7 @@ module _ (house : House) (lawful : lawfulOf (configOf house) ≡ true) (steps : 
       → count (deskAt r d (suc k) .replica .set) i ≡ max (count (deskAt r d k .replica .set) i) (count (plainBrings r d k) i)
   unfolding join count tally
   count-next d k i =
-      desk-moved c (map plain steps) d k
+      desk-moved house (map plain steps) d k
       (λ a y. count (y .replica .set) i ≡ max (count (deskAt r d k .replica .set) i) (count a i))
       (record {
         still = same;
@@ -207,10 +207,10 @@ module _ (house : House) (lawful : lawfulOf (configOf house) ≡ true) (steps : 
         counts-grow d k,
         size-counts k (deskAt r d k .replica .set) (plain-desk d refl),
         size-counts (suc k) (deskAt r d (suc k) .replica .set) (plain-desk d refl),
-        size-next c (map plain steps) d k,
-        brings-is c (map plain steps) d k,
+        size-next house (map plain steps) d k,
+        brings-is house (map plain steps) d k,
         ap (λ a. length a)
-            (missing-same (plainBrought c (map plain steps) d k) (deskAt r d k .replica .set) (plainBrings r d k) (held c (map plain steps) d k)),
+            (missing-same (plainBrought house (map plain steps) d k) (deskAt r d k .replica .set) (plainBrings r d k) (held house (map plain steps) d k)),
       )
 
   -- ---- what a desk holds

@@ -7,12 +7,14 @@ use mathlib.Core.Bool.{Bool, true, false, true≢false}
 use mathlib.Core.List.{List, map}
 use mathlib.Core.Option.{some}
 use lib.IntN.{pos}
+use lib.ListN.{getD, replicate, getD-replicate}
 use Rattle.quorums.specs.Sum.{sum, size}
 use Rattle.quorums.specs.Accounts.{weightIn}
-use Rattle.config.specs.Cluster.{House, configOf, lawfulOf, aboveOf}
+use Rattle.quorums.proofs.Sums.{sum-same, sum-const}
+use Rattle.config.specs.Cluster.{House, configOf, houseFault, level, totalOf, aboveOf}
 use Rattle.config.specs.declared.cluster.Config.{Config}
 use Rattle.config.specs.declared.answer.Verdict.{Verdict}
-use Rattle.config.proofs.Clusters.{total-is}
+use Rattle.config.proofs.Houses.{house-told}
 use Rattle.ledger.specs.declared.ledger.Ledger.{Ledger}
 use Rattle.ledger.specs.Ledgers.{countOf}
 use Rattle.ledger.specs.Maps.{named}
@@ -79,15 +81,23 @@ pub record ToldAfter (p : ProgramRun) (q : ℕ) (x : Result) : Type 0 where
   pub earlier : place < q
   pub most : x .restarts ≤ sum 16 (countOf (deskAt p desk (suc place) .replica .ledger))
 
--- On a ledger of the program the weights total 1,000 for each server, each is above the floor, and a map of at least n − f servers is a quorum.
-pub record Weighed (c : Config) (l : Ledger) : Type 0 where
-  pub total : allOf c l ≡ pos (c .n * 1000)
+-- W, the sum of the start weights that the house was opened with
+abbrev pub listed : House → ℕ
+listed h = sum (h .n) (λ i. getD (h .starts) i 0)
+
+-- which is 1,000 for each server of a level house
+pub level-listed : (n f : ℕ) → listed (level n f) ≡ n * 1000
+level-listed n f = sum-same n (λ i. getD (replicate n 1000) i 0) (λ i. 1000) (λ i l. getD-replicate n i 1000 0 l) ∙ sum-const n 1000
+
+-- On a ledger of the program the weights total W, each is above the floor, and a map of at least n − f servers is a quorum.
+pub record Weighed (W : ℕ) (c : Config) (l : Ledger) : Type 0 where
+  pub total : allOf c l ≡ pos W
   pub floor : (i : ℕ) → i < c .n → aboveOf c (weightOf c l i) ≡ true
   pub majority : (m : ℕ) → c .n - c .f ≤ size (c .n) (named m) → quorumOf c l m ≡ true
 
 -- the same of a set of the machine
-pub record SetWeighed (c : Config) (a : Transfers) : Type 0 where
-  pub total : weightIn (c .n) (accounts c a) (λ i. true) ≡ pos (c .n * 1000)
+pub record SetWeighed (W : ℕ) (c : Config) (a : Transfers) : Type 0 where
+  pub total : weightIn (c .n) (accounts c a) (λ i. true) ≡ pos W
   pub floor : (i : ℕ) → i < c .n → aboveOf c (plainWeight c a i) ≡ true
   pub majority : (q : ℕ → Bool) → c .n - c .f ≤ size (c .n) q → plainQuorum c a q ≡ true
 
@@ -126,7 +136,7 @@ module _ {p : ProgramRun} {d i : ℕ} {t : Task} where
 
 -- ---- of every run
 
-module _ (house : House) (lawful : lawfulOf (configOf house) ≡ true) (steps : List Step) (typed : Typed steps) where
+module _ (house : House) (none : houseFault house ≡ 0) (steps : List Step) (typed : Typed steps) where
   abbrev c : Config
   c = configOf house
 
@@ -137,7 +147,7 @@ module _ (house : House) (lawful : lawfulOf (configOf house) ≡ true) (steps : 
   r = plainRun p
 
   d3 : Demand3 p
-  d3 = demand3 house lawful steps typed
+  d3 = demand3 house none steps typed
 
   -- ---- the clauses of what is seen of the program itself
 
@@ -227,32 +237,38 @@ module _ (house : House) (lawful : lawfulOf (configOf house) ≡ true) (steps : 
 
   -- ---- sheets
 
-  weighed : (l : Ledger) → Sound c l → Weighed c l
-  weighed l s = record { total = s .weights ∙ ap pos (total-is c); floor = s .floor; majority = s .majority }
+  abbrev W : ℕ
+  W = listed house
+
+  total-listed : totalOf c ≡ W
+  total-listed = house-told house none .total
+
+  weighed : (l : Ledger) → Sound c l → Weighed W c l
+  weighed l s = record { total = s .weights ∙ ap pos total-listed; floor = s .floor; majority = s .majority }
 
   module _ (k : ℕ) where
-    pub server-weighed : (i : ℕ) → i < c .n → Weighed c (at p k .servers i .replica .ledger)
+    pub server-weighed : (i : ℕ) → i < c .n → Weighed W c (at p k .servers i .replica .ledger)
     server-weighed i l = weighed _ (d3 .sheets .sound k _ (by-server i l refl))
 
-    pub desk-weighed : (d : ℕ) → 1 ≤ d → d ≤ 65535 → Weighed c (at p k .desks d .replica .ledger)
+    pub desk-weighed : (d : ℕ) → 1 ≤ d → d ≤ 65535 → Weighed W c (at p k .desks d .replica .ledger)
     desk-weighed d l m = weighed _ (d3 .sheets .sound k _ (by-desk d l m refl))
 
     -- a message sent passes its checks, and its sheet is such a one
     pub message-weighed : (q : ℕ) (msg : List ℕ) → nth (at p k .sent) q ≡ some msg
-        → (receiveOf c msg .verdict ≡ Verdict.Accepted) × Weighed c (ledgerIn c msg)
+        → (receiveOf c msg .verdict ≡ Verdict.Accepted) × Weighed W c (ledgerIn c msg)
     message-weighed q msg e = (d3 .sheets .readable k q msg e, weighed _ (d3 .sheets .sound k _ (by-message q msg e refl)))
 
   -- and the machine's sets
 
-  set-weighed : (a : Transfers) → PlainSound c a → SetWeighed c a
-  set-weighed a s = record { total = s .weights ∙ ap pos (total-is c); floor = s .floor; majority = s .majority }
+  set-weighed : (a : Transfers) → PlainSound c a → SetWeighed W c a
+  set-weighed a s = record { total = s .weights ∙ ap pos total-listed; floor = s .floor; majority = s .majority }
 
   module _ (k : ℕ) where
-    pub server-set : (i : ℕ) → SetWeighed c (at r k .servers i .set)
+    pub server-set : (i : ℕ) → SetWeighed W c (at r k .servers i .set)
     server-set i = set-weighed _ (d3 .sets k _ (plain-server i refl))
 
-    pub desk-set : (d : ℕ) → SetWeighed c (at r k .desks d .replica .set)
+    pub desk-set : (d : ℕ) → SetWeighed W c (at r k .desks d .replica .set)
     desk-set d = set-weighed _ (d3 .sets k _ (plain-desk d refl))
 
-    pub message-set : (q : ℕ) (m : Message) → nth (at r k .sent) q ≡ some m → SetWeighed c (m .replica .set)
+    pub message-set : (q : ℕ) (m : Message) → nth (at r k .sent) q ≡ some m → SetWeighed W c (m .replica .set)
     message-set q m e = set-weighed _ (d3 .sets k _ (plain-message q m e refl))

@@ -8,6 +8,7 @@ use mathlib.Core.List.{List, [], _∷_, map}
 use borrow.Author.Tests.{lt-ltb, le-ltb, le-leb, lt-leb}
 use lib.Dec.{eqb, leb, ltb}
 use lib.ListN.{length}
+use Rattle.config.proofs.Clusters.{lawful-valid}
 use Rattle.quorums.proofs.Tests.{le-or-lt, eqb-comm}
 use Rattle.config.specs.Cluster.{lawfulOf}
 use Rattle.config.specs.declared.cluster.Config.{Config}
@@ -53,7 +54,7 @@ map-names (m ∷ l) i = marked-names (mapFor l) (m .server) i ∙ ap₂ {C = Boo
 -- and is a map of the cluster
 pub map-inside : (c : Config) → lawfulOf c ≡ true → (l : List Message) → ((m : Message) → In m l → m .server < c .n) → mapOf c (mapFor l) ≡ true
 unfolding mapFor
-map-inside c valid [] e = none-answered c valid
+map-inside c valid [] e = none-answered c (lawful-valid c valid)
 map-inside c valid (m ∷ l) e = marked-map c (mapFor l) (m .server) (e m (inl refl)) (map-inside c valid l (λ k i. e k (inr i)))
 
 -- ---- the operation
@@ -85,7 +86,7 @@ operation-fits : (c : Config) → lawfulOf c ≡ true → (sent : List Message) 
     → ((y : Result) → a ≡ ended y → RegisterRange c (y .register))
     → fitsOperation c round (operationFor a) ≡ true
 unfolding phaseLawful
-operation-fits c valid sent d round idle w chosen result = none-fits c round valid
+operation-fits c valid sent d round idle w chosen result = none-fits c round (lawful-valid c valid)
 operation-fits c valid sent d round (running o) w chosen result =
     told-operation c round (operationFor (running o)) (record {
       mode-in = mode-later runningMode round (omega arith) (w .begun);
@@ -101,7 +102,7 @@ operation-fits c valid sent d round (ended y) w chosen result =
       mode-in = mode-later endedMode round (omega arith) (w .begun);
       kind-in = kind-fits endedMode (cond (y .is-write) writing reading) (told-kind (y .is-write));
       phase-in = refl;
-      answered-in = none-answered c valid;
+      answered-in = none-answered c (lawful-valid c valid);
       restarts-in = w .restarts;
       value-fits = empty-fits;
       chosen-fits = register-fits c (y .register) (result y refl);

@@ -8,8 +8,9 @@ use mathlib.Core.List.{List, [], _∷_, _++_, map}
 use mathlib.Core.Option.{some}
 use lib.IntN.{pos}
 use lib.ListN.{replicate}
+use Rattle.config.proofs.Houses.{level-fault}
 use Rattle.quorums.specs.Sum.{sum, sumIn, size}
-use Rattle.config.specs.Cluster.{level, lawfulOf, aboveOf}
+use Rattle.config.specs.Cluster.{level, houseFault, aboveOf, House, configOf}
 use Rattle.config.specs.declared.cluster.Config.{Config}
 use Rattle.config.specs.declared.answer.Verdict.{Verdict}
 use Rattle.ledger.specs.declared.ledger.Ledger.{Ledger}
@@ -26,9 +27,9 @@ use Rattle.runs.specs.Runs.{ProgramRun, runOf}
 use Rattle.runs.specs.Seen.{ledgerIn, viewOf}
 use Rattle.runs.specs.Clauses.{plainRun, plainView, Demand3}
 use Rattle.runs.proofs.Demand3.{demand3}
-use Rattle.runs.proofs.Consequences.{Weighed, own, own-restarts, server-weighed, desk-weighed, message-weighed}
+use Rattle.runs.proofs.Consequences.{Weighed, own, own-restarts, server-weighed, desk-weighed, message-weighed, listed, level-listed}
 
-abbrev two : Config
+abbrev two : House
 two = level 2 0
 
 abbrev buffer : List ℕ
@@ -100,16 +101,15 @@ messages =
     ∷ ((0x00 ∷ 0x6F ∷ 0x02 ∷ 0x01 ∷ 0x00 ∷ 0x01 ∷ 0x00 ∷ 0x00 ∷ 0x00 ∷ 0x03 ∷ []) ++ sheetBytes ++ noteBytes)
     ∷ []
 
-valid : lawfulOf two ≡ true
-unfolding lawfulOf
-valid = refl
+taken : houseFault two ≡ 0
+taken = level-fault 2 0 refl
 
 typed : Typed steps
 unfolding areBytes typedSteps
 typed = all-typed (map plain steps) refl
 
 d3 : Demand3 p
-d3 = demand3 two valid steps typed
+d3 = demand3 two taken steps typed
 
 -- ---- answers and bytes
 
@@ -140,7 +140,7 @@ pub record Seen (v : View) : Type 0 where
 
 pub seen : Seen (viewOf p)
 unfolding computing
-seen = own two valid steps typed Seen (record { gives = refl; chosen = refl; brings = refl; held-before = refl; held-after = refl })
+seen = own two taken steps typed Seen (record { gives = refl; chosen = refl; brings = refl; held-before = refl; held-after = refl })
 
 -- ---- the read, its restarts and its gain
 
@@ -149,36 +149,40 @@ unfolding computing
 plain-ends = ends-of (plainRun p) 1 2 read 11 unsold 4294967295 5 refl refl refl refl refl refl refl
 
 pub ends : Ends (viewOf p) 1 2 read 11 unsold
-ends = own two valid steps typed (λ v. Ends v 1 2 read 11 unsold) plain-ends
+ends = own two taken steps typed (λ v. Ends v 1 2 read 11 unsold) plain-ends
 
 -- one restart was made, as it was told
 pub made : restartsMade (viewOf p) 1 2 11 ≡ 1
-made = sym (own-restarts two valid steps typed .made 1 2 11 read unsold ends)
+made = sym (own-restarts two taken steps typed .made 1 2 11 read unsold ends)
 
 -- and two transfers were gained, by which the desk's ledger grew
 pub gained : gain (viewOf p) 1 2 11 ≡ 2
-gained = omega (arith, own-restarts two valid steps typed .growth 1 2 11 read unsold ends, seen .held-before, seen .held-after)
+gained = omega (arith, own-restarts two taken steps typed .growth 1 2 11 read unsold ends, seen .held-before, seen .held-after)
 
 -- ---- sheets
 
+-- their cluster
+abbrev cluster : Config
+cluster = configOf two
+
 -- a ledger on which the two servers weigh 2,000 together, each is above the floor, and both are a quorum
 pub record Sheet (l : Ledger) : Type 0 where
-  pub total : allOf two l ≡ pos 2000
-  pub floor : (aboveOf two (weightOf two l 0) ≡ true) × (aboveOf two (weightOf two l 1) ≡ true)
-  pub quorum : quorumOf two l 3 ≡ true
+  pub total : allOf cluster l ≡ pos 2000
+  pub floor : (aboveOf cluster (weightOf cluster l 0) ≡ true) × (aboveOf cluster (weightOf cluster l 1) ≡ true)
+  pub quorum : quorumOf cluster l 3 ≡ true
 
-sheet : (l : Ledger) → Weighed two l → Sheet l
+sheet : (l : Ledger) → Weighed (listed two) cluster l → Sheet l
 unfolding named size sumIn sum
-sheet l w = record { total = w .total; floor = (w .floor 0 (omega arith), w .floor 1 (omega arith)); quorum = w .majority 3 (omega arith) }
+sheet l w = record { total = w .total ∙ ap pos (level-listed 2 0); floor = (w .floor 0 (omega arith), w .floor 1 (omega arith)); quorum = w .majority 3 (omega arith) }
 
 -- so it is where a reply brings it, where server 1 holds it, and where desk 1 does
-pub sent-sheet : (receiveOf two firstReply .verdict ≡ Verdict.Accepted) × Sheet (ledgerIn two firstReply)
+pub sent-sheet : (receiveOf cluster firstReply .verdict ≡ Verdict.Accepted) × Sheet (ledgerIn cluster firstReply)
 sent-sheet =
-    let w = message-weighed two valid steps typed 13 1 firstReply (ap (λ l. nth l 1) bytes-are) in
+    let w = message-weighed two taken steps typed 13 1 firstReply (ap (λ l. nth l 1) bytes-are) in
     (w .0, sheet _ (w .1))
 
 pub server-sheet : Sheet (at p 13 .servers 1 .replica .ledger)
-server-sheet = sheet _ (server-weighed two valid steps typed 13 1 (omega arith))
+server-sheet = sheet _ (server-weighed two taken steps typed 13 1 (omega arith))
 
 pub desk-sheet : Sheet (at p 13 .desks 1 .replica .ledger)
-desk-sheet = sheet _ (desk-weighed two valid steps typed 13 1 (omega arith) (omega arith))
+desk-sheet = sheet _ (desk-weighed two taken steps typed 13 1 (omega arith) (omega arith))

@@ -11,7 +11,7 @@ use Rattle.quorums.proofs.Tests.{eqb-comm, leb-not}
 use Rattle.config.specs.Cluster.{lawfulOf}
 use Rattle.config.specs.declared.cluster.Config.{Config}
 use Rattle.config.specs.Refusals.{refusal}
-use Rattle.config.proofs.Clusters.{valid-server}
+use Rattle.config.proofs.Clusters.{valid-server, lawful-valid}
 use Rattle.ledger.specs.Changes.{lawful, spares}
 use Rattle.message.specs.Answers.{fits as room}
 use Rattle.server.specs.declared.record.Server.{Server}
@@ -65,7 +65,7 @@ reply-for c i old new m place out = by-room (room (length out) place (length (by
 module _ (c : Config) (valid : lawfulOf c ≡ true) (i : ℕ) (below : i < c .n) (x : Replica) (h : Held c x) where
   -- the record test passes
   pub server-fits : fits (serverFor c i x) ≡ true
-  server-fits = told-fits _ (record { server-in = valid-server c i valid below; replica-fits = replica-fits c valid x h })
+  server-fits = told-fits _ (record { server-in = valid-server c i (lawful-valid c valid) below; replica-fits = replica-fits c valid x h })
 
   -- the server's record
   abbrev s : Server

@@ -13,7 +13,7 @@ use Rattle.ledger.specs.Maps.{named}
 use Rattle.message.specs.Answers.{receiveOf}
 use Rattle.machine.specs.Sets.{Transfers}
 use Rattle.machine.specs.Parties.{Message, bytesOf}
-use Rattle.machine.specs.Runs.{at, nth, when}
+use Rattle.machine.specs.Runs.{at, nth, when, config}
 use Rattle.machine.specs.Steps.{PlainRun}
 use Rattle.machine.specs.Sheets.{Found as PlainFound, Sound as PlainSound, by-server as plain-server, by-desk as plain-desk, by-message as plain-message}
 use Rattle.machine.proofs.Sheets.{sheets as plain-sheets}
@@ -42,7 +42,7 @@ sound-for c valid a w s =
 pub record Sent (r : PlainRun) (k q : ℕ) (msg : List ℕ) : Type 0 where
   pub message : Message
   pub sent : nth (at r k .sent) q ≡ some message
-  pub bytes : bytesOf (r .config) message ≡ msg
+  pub bytes : bytesOf (config r) message ≡ msg
 
 module _ (house : House) (lawful : lawfulOf (configOf house) ≡ true) (steps : List Step) (typed : Typed steps) where
   abbrev c : Config

@@ -109,7 +109,7 @@ module _ (c : Config) (s : PlainState) (t : ProgramState) (st : Stands c s t) wh
       }
     where
       other : (e : ℕ) → (Seated e → ⊥) → (b : Bool) → eqb e d ≡ b
-          → (cond b (deskFor c d (o .party)) (t .desks e) ≡ openDesk (c .n) (c .f) e .desk) × (cond b (o .party) (s .desks e) ≡ freshDesk)
+          → (cond b (deskFor c d (o .party)) (t .desks e) ≡ blankDesk) × (cond b (o .party) (s .desks e) ≡ freshDesk)
       other e l true q = absurd (l (subst Seated (sym (eqb-true e d q)) seated))
       other e l false q = st .others e l
 

@@ -7,7 +7,8 @@ use mathlib.Core.Bool.{true, false, true≢false}
 use mathlib.Core.List.{List, [], _∷_, _++_, map}
 use mathlib.Core.Option.{Option, some}
 use lib.ListN.{replicate}
-use Rattle.config.specs.Cluster.{level, lawfulOf}
+use Rattle.config.proofs.Houses.{level-fault}
+use Rattle.config.specs.Cluster.{level, houseFault, House}
 use Rattle.config.specs.declared.cluster.Config.{Config}
 use Rattle.machine.specs.Parties.{Register, below, Task, read, write, writes, Result}
 use Rattle.machine.specs.Runs.{nth, told, answerAt}
@@ -26,12 +27,11 @@ use Rattle.runs.proofs.Consequences.{Began, Chosen, current, chose, cho
 
 -- ---- the sale
 
-abbrev alone : Config
+abbrev alone : House
 alone = level 1 0
 
-valid : lawfulOf alone ≡ true
-unfolding lawfulOf
-valid = refl
+taken : houseFault alone ≡ 0
+taken = level-fault 1 0 refl
 
 abbrev buffer : List ℕ
 buffer = replicate 32 0
@@ -78,16 +78,16 @@ module _ (rest : List Step) (rest-typed : Typed rest) where
   plain-ends = ends-of (plainRun p) 1 0 (write sale) 6 sale-told 0 3 refl refl refl refl refl refl refl
 
   sale-ends : Ends (viewOf p) 1 0 (write sale) 6 sale-told
-  sale-ends = own alone valid (selling rest) typed (λ v. Ends v 1 0 (write sale) 6 sale-told) plain-ends
+  sale-ends = own alone taken (selling rest) typed (λ v. Ends v 1 0 (write sale) 6 sale-told) plain-ends
 
   sale-chose : Chose (viewOf p) 1 0 (write sale) sold
-  sale-chose = own-results alone valid (selling rest) typed .chose 1 0 6 (write sale) sale-told sale-ends
+  sale-chose = own-results alone taken (selling rest) typed .chose 1 0 6 (write sale) sale-told sale-ends
 
   -- An operation that begins after the sale, of whatever desk, and has a tag, running, ended or dropped, has one no lower than (1, 1); a write's is
   -- higher.
   pub later-tags : (d i : ℕ) (t : Task) (g : Register) → 6 < i → Chosen p d i t g → (below g sold ≡ false) × (writes t ≡ true → below sold g ≡ true)
   later-tags d i t g l h =
-      own-order alone valid (selling rest) typed 1 0 6 (write sale) sale-told sold sale-ends sale-chose d i t g l (chose h)
+      own-order alone taken (selling rest) typed 1 0 6 (write sale) sale-told sold sale-ends sale-chose d i t g l (chose h)
 
   -- ---- the one write of the sale
 
@@ -107,7 +107,7 @@ module _ (rest : List Step) (rest-typed : Typed rest) where
 
       one : o .register ≡ sold
       one =
-          own-tags alone valid (selling rest) typed .once 1 0 (write sale) (o .register) sold
+          own-tags alone taken (selling rest) typed .once 1 0 (write sale) (o .register) sold
           (subst (λ d. Chose (viewOf p) d 0 (write sale) (o .register)) (is .0)
           (subst (λ j. Chose (viewOf p) (o .desk) j (write sale) (o .register)) (is .1)
           (subst (λ w. Chose (viewOf p) (o .desk) (o .begun) (write w) (o .register)) (is .2) (o .chose))))
@@ -120,19 +120,19 @@ module _ (rest : List Step) (rest-typed : Typed rest) where
 
   -- where no other write is begun, a read that begins after the sale, and has a tag, running, ended or dropped, has the sale's register
   pub later-chosen : NoOther p → (d i : ℕ) (g : Register) → 6 < i → Chosen p d i read g → g ≡ sold
-  later-chosen none d i g l h = from-sale none g (later-tags d i read g l h .0) (own-values alone valid (selling rest) typed .source d i g (chose h))
+  later-chosen none d i g l h = from-sale none g (later-tags d i read g l h .0) (own-values alone taken (selling rest) typed .source d i g (chose h))
 
   -- Where no other write is begun, the result that a desk is told of a read which it began after the sale is the sale.
   pub later-told : NoOther p → (d i q : ℕ) (x : Result) → 6 < i → Began p d i read q → nth (map plain (selling rest)) q ≡ some (plain-result d)
       → answerAt p q ≡ told x
       → (x .is-write ≡ false) × (x .register ≡ sold)
   later-told none d i q x l b s e = (
-    own-results alone valid (selling rest) typed .kind d i (t .end) read x ends,
-    from-sale none (x .register) low (own-values alone valid (selling rest) typed .returned d i (t .end) x ends),
+    own-results alone taken (selling rest) typed .kind d i (t .end) read x ends,
+    from-sale none (x .register) low (own-values alone taken (selling rest) typed .returned d i (t .end) x ends),
   )
     where
       t : Told (viewOf p) q x
-      t = own-restarts alone valid (selling rest) typed .reported q x e
+      t = own-restarts alone taken (selling rest) typed .reported q x e
 
       same-desk : {o : Option PlainStep} {y z : ℕ} → o ≡ some (plain-result y) → o ≡ some (plain-result z) → y ≡ z
       same-desk u w = cc
@@ -151,8 +151,8 @@ module _ (rest : List Step) (rest-typed : Typed rest) where
 
       low : below (x .register) sold ≡ false
       low =
-          own-order alone valid (selling rest) typed 1 0 6 (write sale) sale-told sold sale-ends sale-chose d i read (x .register) l
-          (own-results alone valid (selling rest) typed .chose d i (t .end) read x ends) .0
+          own-order alone taken (selling rest) typed 1 0 6 (write sale) sale-told sold sale-ends sale-chose d i read (x .register) l
+          (own-results alone taken (selling rest) typed .chose d i (t .end) read x ends) .0
 
 -- ---- a read of the sale
 
@@ -190,12 +190,12 @@ module _ (rest : List Step) (rest-typed : Typed rest) where
   plain-read = ends-of (plainRun q) 2 7 read 13 read-told 0 7 refl refl refl refl refl refl refl
 
   read-ends : Ends (viewOf q) 2 7 read 13 read-told
-  read-ends = own alone valid (selling (reading rest)) read-typed (λ v. Ends v 2 7 read 13 read-told) plain-read
+  read-ends = own alone taken (selling (reading rest)) read-typed (λ v. Ends v 2 7 read 13 read-told) plain-read
 
   -- Whatever follows: no other write ever has the tag (1, 1) that was read.
   pub only-sale : (d i : ℕ) (w : List ℕ) (g : Register) → Chosen q d i (write w) g → g .stamp ≡ 1 → g .desk ≡ 1 → (d ≡ 1) × (i ≡ 0)
   only-sale d i w g h stamp desk =
-      by-source (own-values alone valid (selling (reading rest)) read-typed .returned 2 7 13 read-told read-ends)
+      by-source (own-values alone taken (selling (reading rest)) read-typed .returned 2 7 13 read-told read-ends)
     where
       by-source : Source (viewOf q) sold sale → (d ≡ 1) × (i ≡ 0)
       by-source (inl s) = absurd (omega (arith, s .0))
@@ -228,7 +228,7 @@ plain-dropped = chose-of (plainRun o) 2 7 (write full) 11 over 0 refl refl refl 
 -- it chose, and was dropped; and its tag is above the sale's
 pub dropped-chosen : Chosen o 2 7 (write full) over
 dropped-chosen =
-    chosen (own alone valid (selling drop-steps) (selling-typed drop-steps drop-typed) (λ v. Chose v 2 7 (write full) over) plain-dropped)
+    chosen (own alone taken (selling drop-steps) (selling-typed drop-steps drop-typed) (λ v. Chose v 2 7 (write full) over) plain-dropped)
 
 pub dropped-higher : below sold over ≡ true
 dropped-higher = later-tags drop-steps drop-typed 2 7 (write full) over (omega arith) dropped-chosen .1 refl
