@@ -7,7 +7,7 @@ use lib.ListN.{replicate}
 use Rattle.quorums.specs.Sum.{sum, all}
 use Rattle.quorums.specs.Difference.{difference}
 use Rattle.quorums.specs.Accounts.{weight, above}
-use Rattle.config.specs.Cluster.{level, validOf, serverOf, startOf, totalOf, aboveOf}
+use Rattle.config.specs.Cluster.{level, validOf, serverOf, startOf, totalOf, aboveOf, configOf, lawfulOf, endsOf, startsAbove, keptOf, keeps}
 use Rattle.config.specs.Refusals.{refusal}
 use Rattle.config.specs.declared.answer.Refusal.{Refusal}
 use Rattle.config.specs.declared.answer.Number.{Number}
@@ -55,14 +55,14 @@ unwritten k out = record { answer = Number.Refused k; out = out }
 
 pub record BadCalls : Type 0 where
   -- open, 1: n = 0, n = 17, 2f = n, number = n, and numbers at their ends
-  pub no-server : openOf 0 0 0 ≡ refused (refusal 1) blankServer
-  pub seventeen-servers : openOf 17 0 0 ≡ refused (refusal 1) blankServer
-  pub half-crash : openOf 4 2 0 ≡ refused (refusal 1) blankServer
-  pub number-past-last : openOf 5 1 5 ≡ refused (refusal 1) blankServer
-  pub most-servers : openOf most 0 0 ≡ refused (refusal 1) blankServer
-  pub most-crashes : openOf 5 most 0 ≡ refused (refusal 1) blankServer
-  pub most-number : openOf 5 1 most ≡ refused (refusal 1) blankServer
-  pub last-server : openOf 16 7 15 ≡ accepted (freshServer (level 16 7) 15)
+  pub no-server : openOf (level 0 0) 0 ≡ refused (refusal 1) blankServer
+  pub seventeen-servers : openOf (level 17 0) 0 ≡ refused (refusal 1) blankServer
+  pub half-crash : openOf (level 4 2) 0 ≡ refused (refusal 1) blankServer
+  pub number-past-last : openOf (level 5 1) 5 ≡ refused (refusal 1) blankServer
+  pub most-servers : openOf (level most 0) 0 ≡ refused (refusal 1) blankServer
+  pub most-crashes : openOf (level 5 most) 0 ≡ refused (refusal 1) blankServer
+  pub most-number : openOf (level 5 1) most ≡ refused (refusal 1) blankServer
+  pub last-server : openOf (level 16 7) 15 ≡ accepted (freshServer (configOf (level 16 7)) 15)
   -- transfer, 11: to itself, to a server ≥ n, of nothing
   pub to-itself : transferOf fresh 0 1 ≡ refused (refusal 11) fresh
   pub past-last : transferOf fresh 5 1 ≡ refused (refusal 11) fresh
@@ -91,7 +91,7 @@ pub record BadCalls : Type 0 where
   pub share-light : shareOf light (replicate 6 0xAA) 7 ≡ unwritten (refusal 1) (replicate 6 0xAA)
 
 pub bad-calls : BadCalls
-unfolding openOf serverOf validOf transferOf giveOf spares lawful added fits fitsReplica registerFits isStart registerMark bounded mayHold totalFits
+unfolding openOf serverOf validOf lawfulOf endsOf startsAbove keptOf keeps transferOf giveOf spares lawful added fits fitsReplica registerFits isStart registerMark bounded mayHold totalFits
     aboveFloor aboveOf above totalOf startOf weightOf weight difference givenOf receivedOf all sum shareOf place room over messageOf bytesOf table run encodeFields
     fieldMapOf fieldMap head register sheet rows row cells cellMap rowMark rowMap note number series marks stands bytes
 bad-calls = record {

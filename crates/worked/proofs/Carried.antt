@@ -5,8 +5,8 @@ use mathlib.Core.Path.{_≡_, refl, sym, ap, ap₂, _∙_, subst}
 use mathlib.Core.Bool.{Bool, true, false, cond}
 use mathlib.Core.List.{List, [], _∷_, map}
 use lib.ListN.{replicate, length-replicate}
-use Rattle.config.specs.Cluster.{validOf}
-use Rattle.config.specs.declared.cluster.Config.{Config}
+use Rattle.config.specs.Cluster.{House, configOf, houseFault}
+use Rattle.config.proofs.Houses.{house-told}
 use Rattle.desk.specs.Margins.{marginOf}
 use Rattle.machine.specs.Parties.{bytesOf}
 use Rattle.machine.specs.Runs.{at, answersOf, mostDesk, deskAt}
@@ -61,29 +61,29 @@ module _ (lent : ℕ → Bool) where
 
   -- the program's run of the machine's steps
   abbrev pub runFor : PlainRun → ProgramRun
-  runFor r = runOf (r .config) (map filled (r .steps))
+  runFor r = runOf (r .house) (map filled (r .steps))
 
   -- what is seen of it
   abbrev pub seen : PlainRun → View
   seen r = viewOf (runFor r)
 
-  module _ (c : Config) (valid : validOf c ≡ true) (l : List PlainStep) (e : typedSteps l ≡ true) where
+  module _ (house : House) (none : houseFault house ≡ 0) (l : List PlainStep) (e : typedSteps l ≡ true) where
     typed : Typed (map filled l)
     typed = subst TypedPlain (sym (all-filled l)) (all-typed l e)
 
     -- it is what is seen of the machine's
-    pub view-shown : plainView (plainRunOf machine c l) ≡ seen (plainRunOf machine c l)
-    view-shown = ap (λ z. plainView (plainRunOf machine c z)) (sym (all-filled l)) ∙ sym (demand3 c valid (map filled l) typed .seen)
+    pub view-shown : plainView (plainRunOf machine house l) ≡ seen (plainRunOf machine house l)
+    view-shown = ap (λ z. plainView (plainRunOf machine house z)) (sym (all-filled l)) ∙ sym (demand3 house none (map filled l) typed .seen)
 
     -- and every answer, and every byte sent, is the machine's
-    pub answers-shown : answersOf (runFor (plainRunOf machine c l)) ≡ answersOf (plainRunOf machine c l)
-    answers-shown = demand3 c valid (map filled l) typed .answers ∙ ap (λ z. answersOf (plainRunOf machine c z)) (all-filled l)
+    pub answers-shown : answersOf (runFor (plainRunOf machine house l)) ≡ answersOf (plainRunOf machine house l)
+    answers-shown = demand3 house none (map filled l) typed .answers ∙ ap (λ z. answersOf (plainRunOf machine house z)) (all-filled l)
 
-    pub bytes-shown : (k : ℕ) → at (runFor (plainRunOf machine c l)) k .sent ≡ map (bytesOf c) (at (plainRunOf machine c l) k .sent)
-    bytes-shown k = demand3 c valid (map filled l) typed .bytes k ∙ ap (λ z. map (bytesOf c) (at (plainRunOf machine c z) k .sent)) (all-filled l)
+    pub bytes-shown : (k : ℕ) → at (runFor (plainRunOf machine house l)) k .sent ≡ map (bytesOf (configOf house)) (at (plainRunOf machine house l) k .sent)
+    bytes-shown k = demand3 house none (map filled l) typed .bytes k ∙ ap (λ z. map (bytesOf (configOf house)) (at (plainRunOf machine house z) k .sent)) (all-filled l)
 
     -- and so is what desk staff see
     pub margin-shown : (k d : ℕ) → 1 ≤ d → d ≤ mostDesk
-        → marginOf (deskAt (runFor (plainRunOf machine c l)) d k) ≡ shownAs (marginBy c (deskAt (plainRunOf machine c l) d k))
+        → marginOf (deskAt (runFor (plainRunOf machine house l)) d k) ≡ shownAs (marginBy (configOf house) (deskAt (plainRunOf machine house l) d k))
     margin-shown k d first last =
-        margin-same c valid (map filled l) typed k d first last ∙ ap (λ z. shownAs (marginBy c (deskAt (plainRunOf machine c z) d k))) (all-filled l)
+        margin-same house (house-told house none .lawful) (map filled l) typed k d first last ∙ ap (λ z. shownAs (marginBy (configOf house) (deskAt (plainRunOf machine house z) d k))) (all-filled l)

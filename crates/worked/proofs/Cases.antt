@@ -10,7 +10,7 @@ use lib.ListN.{replicate}
 use Rattle.quorums.specs.Sum.{size, sum, sumℤ, all}
 use Rattle.quorums.specs.Difference.{difference}
 use Rattle.quorums.specs.Accounts.{weight, total, weightIn, margin, above}
-use Rattle.config.specs.Cluster.{level, validOf, serverOf, startOf, totalOf, aboveOf, stampBytes}
+use Rattle.config.specs.Cluster.{level, validOf, serverOf, startOf, totalOf, aboveOf, stampBytes, configOf, lawfulOf, endsOf, startsAbove, keptOf, keeps, inBounds}
 use Rattle.config.specs.Refusals.{refusal}
 use Rattle.config.specs.declared.answer.Number.{Number}
 use Rattle.config.specs.declared.answer.Signed.{Signed}
@@ -49,11 +49,11 @@ use Rattle.worked.proofs.Messages.{share, sheet-only, share-number}
 
 -- every fresh server of n, of which f may crash, is told v where it gives d to any other
 abbrev pub Gives : (n f d : ℕ) → Verdict → Type 0
-Gives n f d v = (i j : ℕ) → i < n → j < n → (i ≡ j → ⊥) → transferOf (openOf n f i .server) j d .verdict ≡ v
+Gives n f d v = (i j : ℕ) → i < n → j < n → (i ≡ j → ⊥) → transferOf (openOf (level n f) i .server) j d .verdict ≡ v
 
 -- fresh server i of five gives 374 to 2
 abbrev pub gave : ℕ → ServerAnswer
-gave i = transferOf (openOf 5 1 i .server) 2 374
+gave i = transferOf (openOf (level 5 1) i .server) 2 374
 
 -- what 0 and 1 then hold, joined
 abbrev pub union : Changed
@@ -106,7 +106,7 @@ pub record Cases : Type 0 where
   -- "6: 112 is 10"
   pub case-6 : Gives 16 7 112 (Verdict.Refused (refusal 10))
   -- "7: n=4, two fresh servers aren't a quorum": any two, and any lawful f, give 0
-  pub case-7 : (f m : ℕ) → validOf (level 4 f) ≡ true → m < 2 ^ 4 → size 4 (named m) ≡ 2 → quorumAnswer (level 4 f) freshLedger m ≡ Signed.Value (pos 0)
+  pub case-7 : (f m : ℕ) → inBounds 4 f ≡ true → m < 2 ^ 4 → size 4 (named m) ≡ 2 → quorumAnswer (configOf (level 4 f)) freshLedger m ≡ Signed.Value (pos 0)
   -- "8: n=5 f=1, after 0 and 1 each give 374 to 2, servers 2 and 4 are": 2 × 2,748 − 5,000
   pub case-8 : AfterBoth (2 ^ 2 + 2 ^ 4) (Signed.Value (pos 496))
   -- "9: 2 and 0 aren't": 2 × 2,374 − 5,000
@@ -119,7 +119,7 @@ pub record Cases : Type 0 where
 -- ---- cases 8 and 9, by computation
 
 after-both : AfterBoth (2 ^ 2 + 2 ^ 4) (Signed.Value (pos 496)) × AfterBoth (2 ^ 2 + 2 ^ 0) (Signed.Value (negsuc 251))
-unfolding openOf serverOf validOf transferOf giveOf spares lawful added fits fitsReplica registerFits isStart registerMark bounded mayHold totalFits
+unfolding openOf serverOf validOf lawfulOf endsOf startsAbove keptOf keeps transferOf giveOf spares lawful added fits fitsReplica registerFits isStart registerMark bounded mayHold totalFits
     aboveFloor aboveOf above totalOf startOf weightOf weight difference givenOf receivedOf joinAnswer joins joined agree later all table run sum sumℤ
     named mapOf quorumAnswer marginOf margin weightIn total
 after-both = (
@@ -146,7 +146,7 @@ record Computed (j : ℕ) : Type 0 where
 
 computed : (j : ℕ) → j < 5 → (j ≡ 1 → ⊥) → Computed j
 unfolding messageOf bytesOf table run encodeFields fieldMapOf fieldMap head register registerMark sheet rows row cells cellMap rowMark rowMap note number series marks stands bytes
-    sum all stampBytes added validOf faultOf kindFits registerFits isStart within bounded mayHold totalFits aboveFloor aboveOf above totalOf startOf weightOf
+    sum all stampBytes added validOf lawfulOf endsOf startsAbove keptOf keeps faultOf kindFits registerFits isStart within bounded mayHold totalFits aboveFloor aboveOf above totalOf startOf weightOf
     weight difference givenOf receivedOf
 computed zero l d = record { light-bytes = refl; sound-bytes = refl; light-fault = refl; sound-fault = refl; sound-count = refl; sound-cell = refl }
 computed (suc zero) l d = absurd (d refl)
@@ -179,7 +179,7 @@ reads j l d =
 -- ---- all of them
 
 pub cases : Cases
-unfolding validOf byFloor aboveOf above totalOf startOf sum difference offerAnswer offered freeIn bit
+unfolding keptOf keeps table run all byFloor aboveOf above totalOf startOf sum difference offerAnswer offered freeIn bit
 cases = record {
   case-1 = floor-decides 5 1 374 refl (omega arith);
   case-2 = floor-decides 5 1 375 refl (omega arith);
@@ -198,7 +198,7 @@ cases = record {
 
 -- server 0 of five gives 200 to 2
 abbrev pub giver : ServerAnswer
-giver = transferOf (openOf 5 1 0 .server) 2 200
+giver = transferOf (openOf (level 5 1) 0 .server) 2 200
 
 -- "Share from 0 (n=5 f=1) after giving 200 to 2, in hex: 00 23 03 00 00 01 00 01 00 04 00 00 00 C8", written into 20 bytes from place 3
 pub record ShareInHex : Type 0 where
@@ -208,7 +208,7 @@ pub record ShareInHex : Type 0 where
       ≡ replicate 3 0xAA ++ (0x00 ∷ 0x23 ∷ 0x03 ∷ 0x00 ∷ 0x00 ∷ 0x01 ∷ 0x00 ∷ 0x01 ∷ 0x00 ∷ 0x04 ∷ 0x00 ∷ 0x00 ∷ 0x00 ∷ 0xC8 ∷ []) ++ replicate 3 0xAA
 
 pub share-in-hex : ShareInHex
-unfolding openOf serverOf validOf transferOf giveOf spares lawful added fits fitsReplica registerFits isStart registerMark bounded mayHold totalFits
+unfolding openOf serverOf validOf lawfulOf endsOf startsAbove keptOf keeps transferOf giveOf spares lawful added fits fitsReplica registerFits isStart registerMark bounded mayHold totalFits
     aboveFloor aboveOf above totalOf startOf weightOf weight difference givenOf receivedOf all sum shareOf place room over messageOf bytesOf table run encodeFields
     fieldMapOf fieldMap head register sheet rows row cells cellMap rowMark rowMap note number series marks stands bytes
 share-in-hex = record { given = refl; answer = refl; buffer = refl }

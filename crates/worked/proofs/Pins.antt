@@ -5,7 +5,8 @@ use mathlib.Core.Path.{_≡_, refl, _∙_}
 use mathlib.Core.Bool.{Bool}
 use mathlib.Core.List.{List}
 use lib.ListN.{length}
-use Rattle.config.specs.Cluster.{level, validOf}
+use Rattle.config.specs.Cluster.{level}
+use Rattle.config.proofs.Houses.{level-fault}
 use Rattle.machine.specs.Runs.{at, answersOf}
 use Rattle.machine.proofs.Concrete.{areBytes, typedSteps}
 use Rattle.machine.proofs.Pins.{Row, stepsOf, answersIn, alone, aloneBytes, sixteen, sixteenBytes, runIn, pins}
@@ -24,11 +25,11 @@ module _ (lent : ℕ → Bool) where
     pub sixteen-bytes : at (programIn 16 7 sixteen) (length sixteen) .sent ≡ sixteenBytes
 
   pub program-pins : Pinned
-  unfolding areBytes typedSteps validOf
+  unfolding areBytes typedSteps
   program-pins =
       record {
-        alone-answers = answers-shown lent (level 1 0) refl (stepsOf alone) refl ∙ pins .alone-answers;
-        alone-bytes = bytes-shown lent (level 1 0) refl (stepsOf alone) refl (length alone) ∙ pins .alone-bytes;
-        sixteen-answers = answers-shown lent (level 16 7) refl (stepsOf sixteen) refl ∙ pins .sixteen-answers;
-        sixteen-bytes = bytes-shown lent (level 16 7) refl (stepsOf sixteen) refl (length sixteen) ∙ pins .sixteen-bytes;
+        alone-answers = answers-shown lent (level 1 0) (level-fault 1 0 refl) (stepsOf alone) refl ∙ pins .alone-answers;
+        alone-bytes = bytes-shown lent (level 1 0) (level-fault 1 0 refl) (stepsOf alone) refl (length alone) ∙ pins .alone-bytes;
+        sixteen-answers = answers-shown lent (level 16 7) (level-fault 16 7 refl) (stepsOf sixteen) refl ∙ pins .sixteen-answers;
+        sixteen-bytes = bytes-shown lent (level 16 7) (level-fault 16 7 refl) (stepsOf sixteen) refl (length sixteen) ∙ pins .sixteen-bytes;
       }

@@ -8,7 +8,7 @@ use lib.ListN.{replicate, set}
 use Rattle.quorums.specs.Sum.{size, sum, sumℤ, sumIn, all}
 use Rattle.quorums.specs.Difference.{difference}
 use Rattle.quorums.specs.Accounts.{weight, total, weightIn, margin, above}
-use Rattle.config.specs.Cluster.{level, validOf, serverOf, startOf, totalOf, aboveOf, leastOf}
+use Rattle.config.specs.Cluster.{level, validOf, serverOf, startOf, totalOf, aboveOf, leastOf, configOf, lawfulOf, endsOf, startsAbove, keptOf, keeps}
 use Rattle.config.specs.Answers.{startAnswer, totalAnswer, leastAnswer, aboveAnswer}
 use Rattle.config.specs.declared.cluster.Config.{Config}
 use Rattle.config.specs.Refusals.{refusal}
@@ -20,10 +20,10 @@ use Rattle.ledger.specs.declared.ledger.Ledger.{Ledger}
 use Rattle.ledger.specs.Ledgers.{freshLedger, givenOf, receivedOf, refused, accepted}
 use Rattle.ledger.specs.Maps.{named, mapOf, namedAnswer}
 use Rattle.ledger.specs.Weights.{weightOf, marginOf, givenAnswer, receivedAnswer, weightAnswer, quorumAnswer}
-use Rattle.ledger.specs.Checks.{mayHold, totalFits, bounded, aboveFloor, fits, floorAnswer, checkAnswer}
+use Rattle.ledger.specs.Checks.{mayHold, totalFits, bounded, aboveFloor, fits, floorAnswer, fitAnswer, checkAnswer}
 use Rattle.quorums.specs.Tables.{run, table}
 use Rattle.ledger.specs.Joins.{agree, later, joins, joined, joinAnswer}
-use Rattle.ledger.specs.Changes.{lawful, spares, added, giveAnswer, addAnswer}
+use Rattle.ledger.specs.Changes.{lawful, spares, added, giveAnswer, heldAnswer, addAnswer}
 
 -- the largest number of 64 bits
 abbrev pub most : ℕ
@@ -31,22 +31,22 @@ most = 2 ^ 64 - 1
 
 -- five servers, of which one may crash
 abbrev pub five : Config
-five = level 5 1
+five = configOf (level 5 1)
 
 -- ---- the cluster: n = 0, n = 17, 2f = n, and both numbers at their ends
 
 pub record BadClusters : Type 0 where
-  pub none : totalAnswer (level 0 0) ≡ Number.Refused (refusal 1)
-  pub seventeen : totalAnswer (level 17 0) ≡ Number.Refused (refusal 1)
-  pub half : totalAnswer (level 4 2) ≡ Number.Refused (refusal 1)
-  pub half-of-most : leastAnswer (level 16 8) ≡ Number.Refused (refusal 1)
-  pub most-servers : startAnswer (level most 0) 0 ≡ Number.Refused (refusal 1)
-  pub most-crashes : aboveAnswer (level 5 most) (pos 1000) ≡ Decision.Refused (refusal 1)
-  pub smallest : totalAnswer (level 1 0) ≡ Number.Value 1000
-  pub largest : totalAnswer (level 16 7) ≡ Number.Value 16000
+  pub none : totalAnswer (configOf (level 0 0)) ≡ Number.Refused (refusal 1)
+  pub seventeen : totalAnswer (configOf (level 17 0)) ≡ Number.Refused (refusal 1)
+  pub half : totalAnswer (configOf (level 4 2)) ≡ Number.Refused (refusal 1)
+  pub half-of-most : leastAnswer (configOf (level 16 8)) ≡ Number.Refused (refusal 1)
+  pub most-servers : startAnswer (configOf (level most 0)) 0 ≡ Number.Refused (refusal 1)
+  pub most-crashes : aboveAnswer (configOf (level 5 most)) (pos 1000) ≡ Decision.Refused (refusal 1)
+  pub smallest : totalAnswer (configOf (level 1 0)) ≡ Number.Value 1000
+  pub largest : totalAnswer (configOf (level 16 7)) ≡ Number.Value 16000
 
 pub bad-clusters : BadClusters
-unfolding totalAnswer leastAnswer startAnswer aboveAnswer validOf serverOf totalOf startOf sum
+unfolding totalAnswer leastAnswer startAnswer aboveAnswer validOf lawfulOf endsOf startsAbove keptOf keeps table run all aboveOf above serverOf totalOf startOf sum
 bad-clusters = record {
   none = refl;
   seventeen = refl;
@@ -69,7 +69,7 @@ pub record Floor : Type 0 where
   pub first : aboveAnswer five (negsuc (2 ^ 63 - 1)) ≡ Decision.No
 
 pub floor : Floor
-unfolding aboveAnswer leastAnswer validOf aboveOf above leastOf totalOf startOf sum
+unfolding aboveAnswer leastAnswer validOf lawfulOf endsOf startsAbove keptOf keeps table run all aboveOf above leastOf totalOf startOf sum
 floor = record { at = refl; over = refl; least = refl; negative = refl; last = refl; first = refl }
 
 -- ---- servers and maps that there aren't
@@ -84,10 +84,10 @@ pub record BadServers : Type 0 where
   pub named-all : namedAnswer five (2 ^ 5 - 1) ≡ Number.Value 5
   -- and the ends of the number: nobody, everybody
   pub nobody : quorumAnswer five freshLedger 0 ≡ Signed.Value (negsuc 4999)
-  pub everybody : quorumAnswer (level 16 7) freshLedger (2 ^ 16 - 1) ≡ Signed.Value (pos 16000)
+  pub everybody : quorumAnswer (configOf (level 16 7)) freshLedger (2 ^ 16 - 1) ≡ Signed.Value (pos 16000)
 
 pub bad-servers : BadServers
-unfolding weightAnswer givenAnswer receivedAnswer quorumAnswer namedAnswer serverOf validOf mapOf marginOf margin weightIn weight total difference named size sumIn sum sumℤ startOf givenOf receivedOf
+unfolding weightAnswer givenAnswer receivedAnswer quorumAnswer namedAnswer serverOf validOf lawfulOf endsOf startsAbove keptOf keeps table run all totalOf aboveOf above mapOf marginOf margin weightIn weight total difference named size sumIn sum sumℤ startOf givenOf receivedOf
 bad-servers = record {
   server = refl;
   last-server = refl;
@@ -112,7 +112,7 @@ exchange a b = record { counts = a ∷ b ∷ replicate 14 0; cells = set (set (r
 
 pub record BadTransfers : Type 0 where
   -- 1: the cluster, the giver, a row out of range, a server at the floor, also where nothing is given
-  pub cluster : addAnswer (level 4 2) freshLedger 0 1 1 ≡ refused (refusal 1) freshLedger
+  pub cluster : addAnswer (configOf (level 4 2)) freshLedger 0 1 1 ≡ refused (refusal 1) freshLedger
   pub giver : addAnswer five freshLedger 5 0 1 ≡ refused (refusal 1) freshLedger
   pub range : addAnswer five (gave 1 16001) 2 3 1 ≡ refused (refusal 1) (gave 1 16001)
   pub light : addAnswer five (gave 1 375) 2 3 1 ≡ refused (refusal 1) (gave 1 375)
@@ -134,7 +134,7 @@ pub record BadTransfers : Type 0 where
   pub count-first : addAnswer five (exchange 65535 65535) 0 1 most ≡ refused (refusal 12) (exchange 65535 65535)
 
 pub bad-transfers : BadTransfers
-unfolding addAnswer giveAnswer serverOf validOf fits bounded mayHold totalFits aboveFloor aboveOf above totalOf startOf weightOf weight difference givenOf receivedOf
+unfolding addAnswer heldAnswer giveAnswer serverOf validOf lawfulOf endsOf startsAbove keptOf keeps table run fits bounded mayHold totalFits aboveFloor aboveOf above totalOf startOf weightOf weight difference givenOf receivedOf
     all sum lawful spares added
 bad-transfers = record {
   cluster = refl;
@@ -190,7 +190,7 @@ pub record Contents : Type 0 where
   pub cell-alone : checkAnswer five (gave 0 1) ≡ Verdict.Refused (refusal 4)
 
 pub contents : Contents
-unfolding weightAnswer quorumAnswer mapOf named marginOf margin weightIn total sumℤ checkAnswer floorAnswer bounded aboveFloor mayHold totalFits serverOf validOf weightOf weight difference aboveOf above totalOf startOf all sum givenOf receivedOf
+unfolding weightAnswer quorumAnswer mapOf named marginOf margin weightIn total sumℤ checkAnswer fitAnswer floorAnswer bounded aboveFloor mayHold totalFits serverOf validOf lawfulOf endsOf startsAbove keptOf keeps table run weightOf weight difference aboveOf above totalOf startOf all sum givenOf receivedOf
 contents = record {
   full-weight = refl;
   negative-weight = refl;

@@ -7,7 +7,7 @@ use mathlib.Core.List.{[], _∷_, map}
 use mathlib.Core.Option.{none, some}
 use lib.Dec.{eqb}
 use lib.IntN.{pos, negsuc}
-use Rattle.config.specs.Cluster.{validOf}
+use Rattle.config.proofs.Houses.{level-fault}
 use Rattle.config.specs.Refusals.{refusal}
 use Rattle.config.specs.declared.answer.Signed.{Signed}
 use Rattle.desk.specs.Margins.{marginOf}
@@ -33,9 +33,9 @@ module _ (lent : ℕ → Bool) where
     pub read-told : seen lent across .answers 38 ≡ told (returned sold 1)
 
   pub program-across : Across
-  unfolding typedSteps areBytes validOf
+  unfolding typedSteps areBytes
   program-across =
-      let same = view-shown lent (across .config) refl (across .steps) refl in
+      let same = view-shown lent (across .house) (level-fault 4 1 refl) (across .steps) refl in
       record {
         write-ends = subst (λ v. Ends v 1 0 (write sale) 18 (written sold 0)) same (read-across .write-ends);
         weight-moves = subst (λ v. v .answers 19 ≡ done) same (read-across .weight-moves);
@@ -53,9 +53,9 @@ module _ (lent : ℕ → Bool) where
     pub heavier-alone : marginOf (deskAt (runFor lent across) 2 29) ≡ Signed.Value (negsuc 1333)
 
   pub program-watched : Watched
-  unfolding typedSteps areBytes validOf
+  unfolding typedSteps areBytes
   program-watched =
-      let same = margin-shown lent (across .config) refl (across .steps) refl in
+      let same = margin-shown lent (across .house) (level-fault 4 1 refl) (across .steps) refl in
       record {
         before = same 0 1 (omega arith) (omega arith) ∙ ap shownAs (watch-across .before);
         nobody = same 1 1 (omega arith) (omega arith) ∙ ap shownAs (watch-across .nobody);
@@ -73,9 +73,9 @@ module _ (lent : ℕ → Bool) where
     pub read-told : seen lent droppedWrite .answers 23 ≡ told (returned sold 0)
 
   pub program-dropped : Dropped
-  unfolding typedSteps areBytes validOf
+  unfolding typedSteps areBytes
   program-dropped =
-      let same = view-shown lent (droppedWrite .config) refl (droppedWrite .steps) refl in
+      let same = view-shown lent (droppedWrite .house) (level-fault 3 1 refl) (droppedWrite .steps) refl in
       record {
         write-chose = subst (λ v. Chose v 1 0 (write sale) sold) same (read-dropped .write-chose);
         write-dropped = subst (λ v. v .answers 9 ≡ done) same (read-dropped .write-dropped);
@@ -94,9 +94,9 @@ module _ (lent : ℕ → Bool) where
     pub gained : gain (seen lent twoRestarts) 1 2 21 ≡ 3
 
   pub program-restarted : Restarted
-  unfolding typedSteps areBytes validOf computing
+  unfolding typedSteps areBytes computing
   program-restarted =
-      let same = view-shown lent (twoRestarts .config) refl (twoRestarts .steps) refl in
+      let same = view-shown lent (twoRestarts .house) (level-fault 3 1 refl) (twoRestarts .steps) refl in
       record {
         write-ends = subst (λ v. Ends v 1 2 (write sale) 21 (written sold 2)) same (write-restarted .write-ends);
         write-told = subst (λ v. v .answers 22 ≡ told (written sold 2)) same (write-restarted .write-told);
@@ -112,9 +112,9 @@ module _ (lent : ℕ → Bool) where
     pub read-told : seen lent unwritten .answers 13 ≡ told (returned start 0)
 
   pub program-unwritten : Unwritten
-  unfolding typedSteps areBytes validOf
+  unfolding typedSteps areBytes
   program-unwritten =
-      let same = view-shown lent (unwritten .config) refl (unwritten .steps) refl in
+      let same = view-shown lent (unwritten .house) (level-fault 3 1 refl) (unwritten .steps) refl in
       record {
         read-ends = subst (λ v. Ends v 1 0 read 12 (returned start 0)) same (read-unwritten .read-ends);
         read-told = subst (λ v. v .answers 13 ≡ told (returned start 0)) same (read-unwritten .read-told);
@@ -141,13 +141,13 @@ pub record Lent : Type 0 where
   pub same : seen everyOther twoRestarts ≡ seen noneLent twoRestarts
 
 pub program-lent : Lent
-unfolding typedSteps areBytes validOf
+unfolding typedSteps areBytes
 program-lent =
     record {
       hears = refl;
       write-told = program-restarted everyOther .write-told;
       told-by-value = program-restarted noneLent .write-told;
       same =
-          sym (view-shown everyOther (twoRestarts .config) refl (twoRestarts .steps) refl)
-          ∙ view-shown noneLent (twoRestarts .config) refl (twoRestarts .steps) refl;
+          sym (view-shown everyOther (twoRestarts .house) (level-fault 3 1 refl) (twoRestarts .steps) refl)
+          ∙ view-shown noneLent (twoRestarts .house) (level-fault 3 1 refl) (twoRestarts .steps) refl;
     }
