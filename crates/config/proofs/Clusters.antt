@@ -87,7 +87,7 @@ not-lawful c e = rw e refl
 
 -- ---- the total and the floor
 
--- W, each start weight and the least weight are small
+-- W and each start weight are small
 pub total-small : (c : Config) → lawfulOf c ≡ true → totalOf c ≤ 16000
 total-small c e = lawful-told c e .small
 
@@ -97,10 +97,6 @@ start-small c i e l =
     let t = total-small c e in
     let z = sum-const (c .n) 0 in
     omega (arith, sum-rest (c .n) (λ k. 0) (startOf c) (λ k h. omega arith) i l)
-
-pub least-small : (c : Config) → lawfulOf c ≡ true → leastOf c ≤ 16001
-unfolding leastOf
-least-small c v = omega (arith, div-le-self (totalOf c) (2 * (c .n - c .f)), total-small c v)
 
 -- x − y times k is above W exactly when x is above y by more than W / k
 above-quotient : (k W x y : ℕ) → 0 < k → ltb (y * k + W) (x * k) ≡ leb (y + (W / k + 1)) x
@@ -145,6 +141,11 @@ pub start-least : (c : Config) (i : ℕ) → validOf c ≡ true → aboveOf c (p
 start-least c i v =
     let whole : 0 + leastOf c ≡ leastOf c = omega arith in
     ap (aboveOf c) (pos-difference (startOf c i)) ∙ above-least c (startOf c i) 0 v ∙ ap (λ x. leb x (startOf c i)) whole
+
+-- and the least weight is small too
+pub least-small : (c : Config) → lawfulOf c ≡ true → leastOf c ≤ 16001
+unfolding leastOf
+least-small c v = omega (arith, div-le-self (totalOf c) (2 * (c .n - c .f)), total-small c v)
 
 -- ---- the test of 16 start weights at once
 
