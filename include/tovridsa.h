@@ -12,11 +12,12 @@
  * Nothing has to be checked before a call. Any number, any sequence of bytes and any bits in a record's fields get an answer; a call tests the record
  * first. A refusal leaves records and buffers as they were.
  *
- * What a call cannot check is a pointer. One beside a length must be valid for reads (for writes too, where it is not const) of that many bytes, for
- * the time of the call; nobody else may write those bytes during it, nor read those that the call may write; and no two of the buffers and records
- * that one call is lent may overlap where it may write one of them. With the length 0 nothing is read or written, and the pointer may be null: that is
- * how an empty message, value or block is passed. A pointer to a record is aligned for it and not null. The functions keep no pointer, use no memory
- * but the stack (less than 24 KiB, as measured), and may be called from several threads at once, on different records.
+ * What a call cannot check is a pointer. One beside a length must be valid for reads (for writes too, where it is not const) of that many bytes, or, of
+ * a list of start weights, of that many numbers of 64 bits, for which it is aligned; and this for the time of the call. Nobody else may write those
+ * bytes during it, nor read those that the call may write; and no two of the buffers and records that one call is lent may overlap where it may write
+ * one of them. With the length 0 nothing is read or written, and the pointer may be null: that is how an empty message, value, block or list is passed.
+ * A pointer to a record is aligned for it and not null. The functions keep no pointer, use no memory but the stack (less than 24 KiB, as measured), and
+ * may be called from several threads at once, on different records.
  *
  * Records are plain data: copy them, compare them with memcmp (they have no padding), keep them in a file. In a record that was opened and has been
  * through calls only, what means nothing is 0: the bytes after a value's own, and what an operation does not use. Only what the last call on a record
@@ -48,7 +49,7 @@ extern "C" {
  * The version of records and message bytes, which is also the number of the format in docs/FORMAT.md. Keep it beside a record in a file and in the frame
  * of a message, and refuse another one. Functions and their answers may change without it: docs/LANDINGS.md says what each landing has changed.
  */
-#define TOVRIDSA_VERSION 1
+#define TOVRIDSA_VERSION 2
 
 /* ---- answers */
 
@@ -61,8 +62,8 @@ extern "C" {
 /* The refusals. */
 enum {
     TOVRIDSA_BAD_HOUSE = 1,     /* n or f is out of bounds; a server or map has a server >= n; a desk's number is not 1 to 65,535; or a record breaks a
-                                   bound: a field is out of its range (a row's total too, which lies from its count to 16,000 times it), or by its
-                                   sheet some server's weight is not above the floor */
+                                   bound: a field is out of its range (a row's total too, which lies from its count to 16,000 times it), its start
+                                   weights would be a BAD_START or are not 0 from n on, or by its sheet some server's weight is not above the floor */
     TOVRIDSA_TORN = 2,          /* the message ends early or late */
     TOVRIDSA_BAD_MAP = 3,       /* it has fields that its kind may not have, or lacks some */
     TOVRIDSA_ODD_FIELD = 4,     /* a field is out of its range */
@@ -75,7 +76,8 @@ enum {
     TOVRIDSA_BAD_TRANSFER = 11, /* the taker is the giver or >= n, or the amount is 0 */
     TOVRIDSA_SPENT = 12,        /* a counter is at its end: a transfer count, a round or a stamp */
     TOVRIDSA_NARROW = 13,       /* the message does not fit into the buffer from that place on */
-    TOVRIDSA_LONG = 14          /* the value or block is longer than 64 bytes */
+    TOVRIDSA_LONG = 14,         /* the value or block is longer than 64 bytes */
+    TOVRIDSA_BAD_START = 15     /* a list of start weights is not n long, its sum passes 16,000, or one of them is not above the floor */
 };
 
 /* The number of a refusal, or 0 for any other answer. */
@@ -89,10 +91,15 @@ static inline int tovridsa_refusal(int64_t answer)
 
 /* ---- records */
 
-/* The cluster: servers 0 to n - 1, 1 to 16 of them, of which f may crash, 2f < n. */
+/*
+ * The cluster: servers 0 to n - 1, 1 to 16 of them, of which f may crash, 2f < n, and what each of them weighs at the start. All together weigh W, the
+ * sum of these, at most 16,000. A weight w is above the floor where w * 2 * (n - f) > W: every start weight is, and what a server has left after a
+ * transfer.
+ */
 typedef struct tovridsa_config {
     uint64_t n;
     uint64_t f;
+    uint16_t starts[16]; /* those of servers 0 to n - 1; 0 from n on */
 } tovridsa_config;
 
 /* The transfers of weight that a party knows: counts[i] is how many server i made, cells[16 * i + j] what it gave server j in all. */
@@ -183,15 +190,19 @@ typedef struct tovridsa_result_answer {
 /* ---- servers */
 
 /*
- * Opens a server.
+ * Opens a server. All parties of a cluster are opened with the same n, f and start weights: nothing is proved of one whose parties differ in them, and
+ * messages do not carry them, so that a call need not notice.
  *
- *   n         how many servers the cluster has, 1 to 16
- *   f         how many of them may crash, 2f < n
- *   number    which of them this is, 0 to n - 1
+ *   n                   how many servers the cluster has, 1 to 16
+ *   f                   how many of them may crash, 2f < n
+ *   number              which of them this is, 0 to n - 1
+ *   starts, starts_len  what each server weighs at the start: n numbers, of server 0 first. Their sum W is at most 16,000, and each is above the floor
+ *                       (tovridsa_config). A level cluster has 1,000 for each
  *
- * Answers 0, beside a fresh record, or refuses: BAD_HOUSE, beside a record with every field 0, which no call accepts.
+ * Answers 0, beside a fresh record, or refuses: BAD_HOUSE for n, f or the number; BAD_START. Beside a refusal stands a record with every field 0, which
+ * no call accepts.
  */
-tovridsa_server_answer tovridsa_open_server(uint64_t n, uint64_t f, uint64_t number);
+tovridsa_server_answer tovridsa_open_server(uint64_t n, uint64_t f, uint64_t number, const uint64_t *starts, size_t starts_len);
 
 /*
  * Gives weight to another server. No message is sent: whoever hears from this server learns of it.
@@ -233,12 +244,14 @@ tovridsa_serve_answer tovridsa_serve(tovridsa_server server, const uint8_t *msg,
 /*
  * Opens a desk.
  *
- *   n, f      as in tovridsa_open_server
- *   number    the desk's number, 1 to 65,535, which no other desk of the cluster has
+ *   n, f                as in tovridsa_open_server
+ *   number              the desk's number, 1 to 65,535, which no other desk of the cluster has
+ *   starts, starts_len  as in tovridsa_open_server
  *
- * Answers 0, beside a fresh record, or refuses: BAD_HOUSE, beside a record with every field 0, which no call accepts.
+ * Answers 0, beside a fresh record, or refuses: BAD_HOUSE for n, f or the number; BAD_START. Beside a refusal stands a record with every field 0, which
+ * no call accepts.
  */
-tovridsa_desk_answer tovridsa_open_desk(uint64_t n, uint64_t f, uint64_t number);
+tovridsa_desk_answer tovridsa_open_desk(uint64_t n, uint64_t f, uint64_t number, const uint64_t *starts, size_t starts_len);
 
 /*
  * Begins a read. A result that was kept is gone.
@@ -311,7 +324,7 @@ tovridsa_result_answer tovridsa_result(tovridsa_desk desk);
  *
  *   desk      the record
  *
- * Answers that number, from -16,000 to 16,000 (-1,000 n to 1,000 n), or refuses: BAD_HOUSE for the record; IDLE where none runs.
+ * Answers that number, from -16,000 to 16,000 (-W to W), or refuses: BAD_HOUSE for the record; IDLE where none runs.
  */
 int64_t tovridsa_margin(tovridsa_desk desk);
 
@@ -330,35 +343,36 @@ tovridsa_desk_answer tovridsa_drop(tovridsa_desk desk);
 /*
  * Checks a message.
  *
- *   n         how many servers the cluster has, 1 to 16
- *   f         how many of them may crash, 2f < n
- *   msg, len  the message
+ *   n                   how many servers the cluster has, 1 to 16
+ *   f                   how many of them may crash, 2f < n
+ *   starts, starts_len  what each server weighs at the start, as in tovridsa_open_server
+ *   msg, len            the message
  *
- * Answers 0 where the message passes, or refuses: BAD_HOUSE for n or f; then, by the first fault from the front of the message, TORN, BAD_MAP or
- * ODD_FIELD; then TORN for bytes left over; last LIGHT.
+ * Answers 0 where the message passes, or refuses: BAD_HOUSE for n or f; BAD_START, whatever the message is; then, by the first fault from the front of
+ * the message, TORN, BAD_MAP or ODD_FIELD; then TORN for bytes left over; last LIGHT.
  */
-int64_t tovridsa_check(uint64_t n, uint64_t f, const uint8_t *msg, size_t len);
+int64_t tovridsa_check(uint64_t n, uint64_t f, const uint64_t *starts, size_t starts_len, const uint8_t *msg, size_t len);
 
 /*
- * Weighs a server by a message's sheet. A message without a sheet has the fresh one, on which every server weighs 1,000.
+ * Weighs a server by a message's sheet. A message without a sheet has the fresh one, on which every server has its start weight.
  *
  *   server    the server, 0 to n - 1
- *   n, f, msg, len as in tovridsa_check
+ *   n, f, starts, starts_len, msg, len as in tovridsa_check
  *
  * Answers the weight, which is above 0, or refuses as tovridsa_check does, and then BAD_HOUSE for a server >= n.
  */
-int64_t tovridsa_weight(uint64_t n, uint64_t f, uint64_t server, const uint8_t *msg, size_t len);
+int64_t tovridsa_weight(uint64_t n, uint64_t f, const uint64_t *starts, size_t starts_len, uint64_t server, const uint8_t *msg, size_t len);
 
 /*
  * Says by how much servers carry more than half of the weight by a message's sheet: twice their weight, less that of all servers. Above 0 they are a
  * quorum; at 0 and below they are not.
  *
  *   map       the servers: bit i, bit 0 worth 1, names server i
- *   n, f, msg, len as in tovridsa_check
+ *   n, f, starts, starts_len, msg, len as in tovridsa_check
  *
- * Answers that number, from -16,000 to 16,000 (-1,000 n to 1,000 n), or refuses as tovridsa_check does, and then BAD_HOUSE for a map with a bit >= n.
+ * Answers that number, from -16,000 to 16,000 (-W to W), or refuses as tovridsa_check does, and then BAD_HOUSE for a map with a bit >= n.
  */
-int64_t tovridsa_quorum(uint64_t n, uint64_t f, uint64_t map, const uint8_t *msg, size_t len);
+int64_t tovridsa_quorum(uint64_t n, uint64_t f, const uint64_t *starts, size_t starts_len, uint64_t map, const uint8_t *msg, size_t len);
 
 /*
  * Counts the seats on offer in a block: its bits that are 0. A bit that is 1 is a seat sold.
@@ -380,9 +394,10 @@ int64_t tovridsa_seats(const uint8_t *block, size_t len);
 #define TOVRIDSA_AT(record, field, place) TOVRIDSA_LAID(offsetof(record, field) == (place), #record "." #field " lies elsewhere")
 
 /* Each record is as long as its fields together, and each field lies after those before it. */
-TOVRIDSA_LAID(sizeof(tovridsa_config) == 8 + 8, "tovridsa_config");
+TOVRIDSA_LAID(sizeof(tovridsa_config) == 8 + 8 + 16 * 2, "tovridsa_config");
 TOVRIDSA_AT(tovridsa_config, n, 0);
 TOVRIDSA_AT(tovridsa_config, f, 8);
+TOVRIDSA_AT(tovridsa_config, starts, 16);
 
 TOVRIDSA_LAID(sizeof(tovridsa_ledger) == 16 * 2 + 256 * 4, "tovridsa_ledger");
 TOVRIDSA_AT(tovridsa_ledger, counts, 0);
@@ -403,8 +418,8 @@ TOVRIDSA_AT(tovridsa_replica, reg, 1056);
 
 TOVRIDSA_LAID(sizeof(tovridsa_server) == sizeof(tovridsa_config) + 8 + sizeof(tovridsa_replica), "tovridsa_server");
 TOVRIDSA_AT(tovridsa_server, config, 0);
-TOVRIDSA_AT(tovridsa_server, number, 16);
-TOVRIDSA_AT(tovridsa_server, replica, 24);
+TOVRIDSA_AT(tovridsa_server, number, 48);
+TOVRIDSA_AT(tovridsa_server, replica, 56);
 
 TOVRIDSA_LAID(sizeof(tovridsa_operation) == 3 * 4 + 3 * 2 + sizeof(tovridsa_value) + sizeof(tovridsa_register), "tovridsa_operation");
 TOVRIDSA_AT(tovridsa_operation, mode, 0);
@@ -418,10 +433,10 @@ TOVRIDSA_AT(tovridsa_operation, chosen, 84);
 
 TOVRIDSA_LAID(sizeof(tovridsa_desk) == sizeof(tovridsa_config) + 8 + sizeof(tovridsa_replica) + 4 + sizeof(tovridsa_operation), "tovridsa_desk");
 TOVRIDSA_AT(tovridsa_desk, config, 0);
-TOVRIDSA_AT(tovridsa_desk, number, 16);
-TOVRIDSA_AT(tovridsa_desk, replica, 24);
-TOVRIDSA_AT(tovridsa_desk, round, 1152);
-TOVRIDSA_AT(tovridsa_desk, operation, 1156);
+TOVRIDSA_AT(tovridsa_desk, number, 48);
+TOVRIDSA_AT(tovridsa_desk, replica, 56);
+TOVRIDSA_AT(tovridsa_desk, round, 1184);
+TOVRIDSA_AT(tovridsa_desk, operation, 1188);
 
 TOVRIDSA_LAID(sizeof(tovridsa_server_answer) == 8 + sizeof(tovridsa_server), "tovridsa_server_answer");
 TOVRIDSA_AT(tovridsa_server_answer, answer, 0);
