@@ -7,30 +7,29 @@ use crate::format::{field, Kind, Message};
 use crate::lawful;
 use crate::patch::{apply, Patch, Target};
 use crate::place::Place;
-use crate::random::{cluster, Random};
+use crate::random::Random;
+use crate::starts::config;
 use crate::weights::Config;
 use crate::write::{write_pieces, Part, Piece};
 
 /// A cluster and bytes that are refused there. The pieces are those of the
 /// message before it was changed.
 pub struct Aimed {
-    pub n: u64,
-    pub f: u64,
+    pub config: Config,
     pub bytes: Vec<u8>,
     pub pieces: Vec<Piece>,
 }
 
-/// A message with a cause of refusal at the place, which is any but that of the
-/// house, and also at a second place if the message has the parts for it.
-/// Messages are drawn until one has the parts that the first place needs.
+/// A message with a cause of refusal at the place, which is any in a message,
+/// and also at a second place if the message has the parts for it. Messages are
+/// drawn until one has the parts that the first place needs.
 pub fn aimed(random: &mut Random, place: Place, also: Option<Place>) -> Aimed {
-    assert_ne!(place, Place::House, "no message is refused there");
+    assert!(place.is_in_message(), "no message is refused there");
     loop {
-        let (n, f) = cluster(random);
-        let config = Config::level(n, f);
+        let config = config(random);
         let mut room = [0; 64];
         let mut message = lawful::message(random, config, &mut room);
-        if n > 1 && (place == Place::Light || also == Some(Place::Light)) {
+        if config.n() > 1 && (place == Place::Light || also == Some(Place::Light)) {
             lawful::make_light(random, config, &mut message.ledger);
         }
         let (mut bytes, pieces) = write_pieces(&message);
@@ -45,8 +44,7 @@ pub fn aimed(random: &mut Random, place: Place, also: Option<Place>) -> Aimed {
             first.extend(more.unwrap_or_default());
             apply(&mut bytes, first);
             return Aimed {
-                n,
-                f,
+                config,
                 bytes,
                 pieces,
             };
@@ -55,14 +53,14 @@ pub fn aimed(random: &mut Random, place: Place, also: Option<Place>) -> Aimed {
 }
 
 /// The bytes of a lawful message with a cause of refusal at the place, or `None`
-/// if the message lacks a part for it. The house and the weights are no part.
+/// if the message lacks a part for it. The cluster and the weights are no part.
 pub fn aimed_in(
     random: &mut Random,
     config: Config,
     message: &Message,
     place: Place,
 ) -> Option<Vec<u8>> {
-    if matches!(place, Place::House | Place::Light) {
+    if place == Place::Light {
         return None;
     }
     let (mut bytes, pieces) = write_pieces(message);
@@ -85,6 +83,7 @@ fn patches(target: &Target, random: &mut Random, place: Place) -> Option<Vec<Pat
     let end = target.bytes.len();
     match place {
         Place::House => None,
+        Place::StartsLength | Place::StartsSum | Place::StartsFloor => None,
 
         Place::TornMap => target.cut(random, Part::Map),
         Place::TornKind => target.cut(random, Part::Kind),
@@ -140,16 +139,16 @@ fn patches(target: &Target, random: &mut Random, place: Place) -> Option<Vec<Pat
 #[cfg(test)]
 mod tests {
     use super::*;
-    use crate::answers::open;
+    use crate::format::read;
 
     #[test]
     fn each_place_is_hit() {
         let mut random = Random::new(3);
-        for &place in Place::ALL.iter().filter(|&&place| place != Place::House) {
+        for &place in Place::ALL.iter().filter(|place| place.is_in_message()) {
             for _ in 0..500 {
-                let Aimed { n, f, bytes, .. } = aimed(&mut random, place, None);
-                let found = open(n, f, &bytes).err().map(|fault| fault.place);
-                assert_eq!(found, Some(place), "n {n} f {f} {bytes:02X?}");
+                let Aimed { config, bytes, .. } = aimed(&mut random, place, None);
+                let found = read(config, &bytes).err().map(|fault| fault.place);
+                assert_eq!(found, Some(place), "{config:?} {bytes:02X?}");
             }
         }
     }

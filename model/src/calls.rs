@@ -6,9 +6,9 @@ use crate::{answers, proved};
 
 /// The calls of one implementation.
 pub struct Calls {
-    pub check: fn(u64, u64, &[u8]) -> i64,
-    pub weight: fn(u64, u64, u64, &[u8]) -> i64,
-    pub quorum: fn(u64, u64, u64, &[u8]) -> i64,
+    pub check: fn(u64, u64, &[u64], &[u8]) -> i64,
+    pub weight: fn(u64, u64, &[u64], u64, &[u8]) -> i64,
+    pub quorum: fn(u64, u64, &[u64], u64, &[u8]) -> i64,
     pub seats: fn(&[u8]) -> i64,
 }
 
@@ -33,11 +33,11 @@ pub const PROVED: Calls = Calls {
 
 impl Calls {
     pub fn answers(&self, case: &Case) -> Answers {
-        let (n, f, message) = (case.n, case.f, &case.message);
+        let (n, f, starts, message) = (case.n, case.f, &case.starts, &case.message);
         [
-            (self.check)(n, f, message),
-            (self.weight)(n, f, case.server, message),
-            (self.quorum)(n, f, case.map, message),
+            (self.check)(n, f, starts, message),
+            (self.weight)(n, f, starts, case.server, message),
+            (self.quorum)(n, f, starts, case.map, message),
             (self.seats)(&case.block),
         ]
     }

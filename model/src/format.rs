@@ -40,7 +40,7 @@ pub struct Register<'a> {
 }
 
 /// What a message says. `None` is a field that is absent; a message without a
-/// sheet has the fresh ledger.
+/// sheet has the fresh ledger, on which each server has its start weight.
 #[derive(Clone, Debug, PartialEq, Eq)]
 pub struct Message<'a> {
     pub kind: Kind,
@@ -86,7 +86,7 @@ pub fn read(config: Config, bytes: &[u8]) -> Result<Message<'_>, Fault> {
     if !reader.rest.is_empty() {
         return Err(Place::LeftOver.into());
     }
-    // The fresh ledger is above the floor in every cluster.
+    // The start weights are above the floor in every cluster.
     if map & field::LEDGER != 0 && ledger.is_light(config) {
         return Err(Place::Light.into());
     }

@@ -5,7 +5,7 @@
 
 use crate::format::{Kind, Message, Register, MOST_PER_TRANSFER};
 use crate::random::Random;
-use crate::weights::{Config, Ledger, MOST, START};
+use crate::weights::{Config, Ledger, MOST};
 
 /// The most that a row can total: the largest count, each transfer the largest.
 const MOST_IN_ROW: u64 = MOST_PER_TRANSFER * u16::MAX as u64;
@@ -93,7 +93,7 @@ pub fn make_light(random: &mut Random, config: Config, ledger: &mut Ledger) {
     if total(&ledger.cells[giver]) == MOST_IN_ROW {
         *ledger = Ledger::FRESH;
     }
-    let rest = config.spare(ledger.weights()[giver]) as u32;
+    let rest = config.spare(ledger.weights(config)[giver]) as u32;
     let beyond = match random.below(4) {
         0..=1 => 1,
         2 => random.within(1, 2_000),
@@ -106,13 +106,12 @@ pub fn make_light(random: &mut Random, config: Config, ledger: &mut Ledger) {
 /// A few gifts, each within what the giver can spare; or one gift of 1, which
 /// puts many maps just above half of the weight, or just below.
 fn add_gifts(random: &mut Random, config: Config, ledger: &mut Ledger) {
+    let mut weights = ledger.weights(config);
     if random.one_in(4) {
-        // No weight is below the start yet, and that can spare 1 everywhere.
         let (giver, taker) = two_servers(random, config);
-        ledger.cells[giver][taker] += 1;
+        ledger.cells[giver][taker] += u32::from(config.spare(weights[giver]) > 0);
         return;
     }
-    let mut weights = ledger.weights();
     for _ in 0..random.within(1, 2 * config.n() as u64) {
         let (giver, taker) = two_servers(random, config);
         let spare = config.spare(weights[giver]) as u64;
@@ -167,7 +166,7 @@ fn ring_amount(random: &mut Random) -> u32 {
         1..=2 => MOST_PER_TRANSFER * random.within(1, 20),
         3 => random.within(1, 40_000_000),
         4 => random.within(1, 100_000),
-        _ => random.within(1, START as u64),
+        _ => random.within(1, 1_000),
     };
     amount as u32
 }
@@ -204,23 +203,19 @@ mod tests {
     use super::*;
     use crate::format::read;
     use crate::place::Place;
-    use crate::random::cluster;
+    use crate::starts::config;
     use crate::write::write;
 
     #[test]
     fn what_is_written_is_read_back() {
         let mut random = Random::new(4);
         for _ in 0..50_000 {
-            let (n, f) = cluster(&mut random);
-            let config = Config::level(n, f);
+            let config = config(&mut random);
             let mut room = [0; 64];
             let message = message(&mut random, config, &mut room);
             let bytes = write(&message);
-            assert_eq!(
-                read(config, &bytes),
-                Ok(message),
-                "n {n} f {f} {bytes:02X?}"
-            );
+            let again = read(config, &bytes);
+            assert_eq!(again, Ok(message), "{config:?} {bytes:02X?}");
         }
     }
 
@@ -241,9 +236,8 @@ mod tests {
     fn one_gift_too_many_is_light() {
         let mut random = Random::new(6);
         for _ in 0..50_000 {
-            let (n, f) = cluster(&mut random);
-            let config = Config::level(n, f);
-            if n > 1 {
+            let config = config(&mut random);
+            if config.n() > 1 {
                 let mut room = [0; 64];
                 let mut message = message(&mut random, config, &mut room);
                 make_light(&mut random, config, &mut message.ledger);

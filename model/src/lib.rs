@@ -43,6 +43,7 @@ pub mod damage;
 pub mod lawful;
 pub mod patch;
 pub mod random;
+pub mod starts;
 
 pub mod machine;
 pub mod runs;

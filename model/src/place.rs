@@ -1,6 +1,7 @@
 //! Every place and cause at which a message is refused, finer than the number
 //! that is handed out: paper 01, "Message bytes" (the paragraph "Checks") and
-//! "Numbers handed out". A fault's number follows from its place.
+//! "Numbers handed out"; before these the start weights of paper 02, N2. A
+//! fault's number follows from its place.
 
 /// Where a message was refused, and by which number.
 #[derive(Clone, Copy, Debug, PartialEq, Eq)]
@@ -18,6 +19,13 @@ impl From<Place> for Fault {
     }
 }
 
+impl Place {
+    /// Whether it is in the message, and not in what the cluster is given by.
+    pub fn is_in_message(self) -> bool {
+        !matches!(self.number(), 1 | 15)
+    }
+}
+
 /// Makes the enum, the list of its members and their numbers from one table.
 macro_rules! places {
     ($($number:literal $name:ident $words:literal)*) => {
@@ -28,7 +36,7 @@ macro_rules! places {
         impl Place {
             pub const ALL: &'static [Place] = &[$(Place::$name),*];
 
-            /// The number that paper 01 hands out for it.
+            /// The number that is handed out for it.
             pub const fn number(self) -> u8 {
                 match self { $(Place::$name => $number,)* }
             }
@@ -43,6 +51,10 @@ macro_rules! places {
 
 places! {
     1 House "n or f is out of bounds"
+
+    15 StartsLength "the list of start weights is not n long"
+    15 StartsSum "the start weights pass 16,000 together"
+    15 StartsFloor "a start weight is not above the floor"
 
     2 TornMap "the bytes end within the map"
     2 TornKind "the bytes end before the kind"

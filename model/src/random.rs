@@ -5,7 +5,7 @@
 
 /// Far numbers: a program that cuts a number to 8, 16 or 32 bits, or lets 2f
 /// wrap, would take one of these plus a small number for the small number.
-const FAR: [u64; 6] = [1 << 8, 1 << 16, 1 << 31, 1 << 32, 1 << 62, 1 << 63];
+pub const FAR: [u64; 6] = [1 << 8, 1 << 16, 1 << 31, 1 << 32, 1 << 62, 1 << 63];
 
 /// The state of the generator.
 #[derive(Clone, Debug)]

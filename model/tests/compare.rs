@@ -53,8 +53,9 @@ fn model_and_library_agree() {
 fn difference(seed: u64, number: u64, case: &Case, model: &Answers, library: &Answers) -> String {
     let mut lines = vec![
         format!("seed {seed}, case {number}: n {}, f {}", case.n, case.f),
+        format!("starts: {:?}", case.starts),
         format!("message: {}", hex(&case.message)),
-        match open(case.n, case.f, &case.message) {
+        match open(case.n, case.f, &case.starts, &case.message) {
             Ok(_) => "the model takes it".to_string(),
             Err(fault) => format!("the model refuses it: {}", place_words(fault.place)),
         },

@@ -13,7 +13,7 @@ use model::conformance::line::text;
 use model::conformance::reach::{DESK, MESSAGES, SERVER};
 use model::conformance::{as_text, files, spent, File};
 use model::machine::calls::Right;
-use model::machine::command::Command;
+use model::machine::command::{Command, House};
 use model::machine::parse::parse;
 use model::machine::program::Program;
 use model::place::Place;
@@ -74,8 +74,14 @@ impl Stored {
 
     /// The clusters that are opened.
     fn houses(&self) -> BTreeSet<(u64, u64)> {
+        let opened = self.opened().into_iter();
+        opened.map(|house| (house.n, house.f)).collect()
+    }
+
+    /// The same with their lists.
+    fn opened(&self) -> Vec<House> {
         let opened = self.turns().filter_map(|turn| match turn {
-            (Command::House { n, f }, "ok") => Some((n, f)),
+            (Command::House { house }, "ok") => Some(house),
             _ => None,
         });
         opened.collect()
@@ -168,7 +174,7 @@ fn one_party(name: &str, named: fn(&Command<Vec<u8>>, u64) -> Option<u64>) {
     let (mut open, mut own) = (0, None);
     for (command, answer) in Stored::read(name).turns() {
         match (&command, answer) {
-            (Command::House { n, .. }, "ok") => (open, own) = (*n, None),
+            (Command::House { house }, "ok") => (open, own) = (house.n, None),
             (Command::House { .. }, _) => {}
             _ => {
                 let party = named(&command, open);
@@ -209,17 +215,29 @@ fn all_is_reached() {
     assert_eq!(sizes, (1..=16).collect());
 }
 
+/// How many houses of each file start level and how many do not.
+#[test]
+fn houses_are_level_and_uneven() {
+    for name in ["server", "desk"] {
+        let opened = Stored::read(name).opened();
+        let listed = opened.iter().filter(|house| house.starts.is_some());
+        let (uneven, all) = (listed.count(), opened.len());
+        println!("{name}: {uneven} of {all} houses have a list");
+        assert!(uneven >= 30 && all - uneven >= 30, "{name}");
+    }
+}
+
 #[test]
 fn messages_are_refused_at_every_place() {
     let mut places: BTreeMap<Place, u64> = Place::ALL.iter().map(|place| (*place, 0)).collect();
     let mut accepted = BTreeSet::new();
     for (command, _) in Stored::read("messages").turns() {
-        let Command::Message { n, f, bytes } = command else {
+        let Command::Message { house, bytes } = command else {
             panic!("it is no message");
         };
-        match open(n, f, &bytes) {
+        match open(house.n, house.f, &house.starts(), &bytes) {
             Ok((_, message)) => {
-                accepted.insert((n, f, message.kind as u8));
+                accepted.insert((house.n, house.f, message.kind as u8));
             }
             Err(fault) => *places.entry(fault.place).or_default() += 1,
         }

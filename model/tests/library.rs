@@ -29,7 +29,7 @@ use model::runs::script::replay;
 use model::runs::spent::spent;
 use model::runs::still::changed;
 use model::runs::store::Store;
-use model::weights::Ledger;
+use model::weights::{level, Ledger};
 
 type PlainMachine = Program<Transfers, Right>;
 type CountsAndCells = Program<Ledger, Right>;
@@ -92,8 +92,8 @@ fn the_library_answers_the_papers_script() {
     println!("{lines} lines");
 }
 
-/// The numbers that a house and its parties cannot have, and a record that no
-/// call accepts.
+/// The numbers that a house and its parties cannot have, whatever the list, and a
+/// record that no call accepts.
 #[test]
 fn a_refused_open_hands_back_a_record_that_no_call_accepts() {
     let bad_house = refusal(1);
@@ -109,10 +109,12 @@ fn a_refused_open_hands_back_a_record_that_no_call_accepts() {
         (3, 1, 1 << 32, 65_536),
         (3, 1, huge, huge),
     ] {
-        let opened = servers::open(n, f, server);
-        assert_eq!((opened.answer, opened.server), (bad_house, Server::NONE));
-        let opened = desks::open(n, f, desk);
-        assert_eq!((opened.answer, opened.desk), (bad_house, Desk::NONE));
+        for starts in [level(n), vec![], vec![300, 100], vec![huge; 3]] {
+            let opened = servers::open(n, f, server, &starts);
+            assert_eq!((opened.answer, opened.server), (bad_house, Server::NONE));
+            let opened = desks::open(n, f, desk, &starts);
+            assert_eq!((opened.answer, opened.desk), (bad_house, Desk::NONE));
+        }
     }
 
     let server = Server::NONE;
@@ -148,7 +150,7 @@ fn a_refused_open_hands_back_a_record_that_no_call_accepts() {
 /// behind. 1 comes before 9.
 #[test]
 fn margins_of_records() {
-    let mut desk = desks::open(5, 1, 7).desk;
+    let mut desk = desks::open(5, 1, 7, &level(5)).desk;
     assert_eq!(desks::margin(desk), refusal(9));
     desk = desks::begin_read(desk, 0).desk;
     assert_eq!(desks::margin(desk), -5_000);

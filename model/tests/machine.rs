@@ -1,6 +1,7 @@
 //! The plain machine on the examples of paper 01, "Checked by the prover": cases
 //! 1 to 9 and the share in hex, and a write and a read across a transfer; and on
-//! margins (paper 02, N1). The model over counts and cells has to agree.
+//! margins and start weights (paper 02, N1 and N2). The model over counts and
+//! cells has to agree.
 
 use model::machine::calls::Right;
 use model::machine::command::{hex, Command};
@@ -13,11 +14,15 @@ use model::weights::Ledger;
 /// opens a house of n and f whose servers start level, and the script follows. A
 /// word `@k` stands for the message that line k sent.
 fn answers(n: u64, f: u64, script: &[&str]) -> Vec<String> {
+    answers_in(&format!("house {n} {f}"), script)
+}
+
+/// The same after this line.
+fn answers_in(opening: &str, script: &[&str]) -> Vec<String> {
     let mut machine = Program::<Transfers, _>::new(Right);
     let mut cells = Program::<Ledger, _>::new(Right);
     let mut answers: Vec<String> = Vec::new();
-    let opening = format!("house {n} {f}");
-    for line in [opening.as_str()].iter().chain(script) {
+    for line in [opening].iter().chain(script) {
         let words: Vec<&str> = (line.split(' '))
             .map(|word| match word.strip_prefix('@') {
                 None => word,
@@ -199,11 +204,114 @@ fn a_read_across_a_transfer() {
     assert_eq!(
         answers[16],
         format!(
-            "desk 1 n 3 f 0 tag 1 1 value {block} weights 1000 501 1499 counts 0 1 0 cells 1>2:499 \
+            "desk 1 n 3 f 0 starts 1000,1000,1000 tag 1 1 value {block} weights 1000 501 1499 counts 0 1 0 cells 1>2:499 \
              round 3 operation running write phase 2 note 5 restarts 1 answered - writing {block} \
              chosen 1 1 {block}"
         )
     );
     assert_eq!(answers[23], format!("ok write 1 1 1 {block}"));
     assert_eq!(answers[40], format!("ok read 1 1 1 {block}"));
+}
+
+/// A house with one strong server: what it can spare, who is a quorum, and that
+/// its parties show the list.
+#[test]
+fn one_strong_server() {
+    let house = "house 5 1 starts 2200,700,700,700,700";
+    let script = [
+        "transfer 0 1 1575",
+        "transfer 1 0 75",
+        "transfer 1 0 74",
+        "share 1 0 1111",
+        "quorum 1 @4",
+        "quorum 9 @4",
+        "quorum 30 @4",
+        "quorum 28 @4",
+        "serve 0 0 0 @4",
+        "transfer 0 1 1648",
+        "record server 0",
+    ];
+    let answers = answers_in(house, &script);
+    let expected = [
+        "no 10", "no 10", "ok", "-452", "948", "452", "-800", "ok", "ok",
+    ];
+    let without_share = answers.iter().skip(1).enumerate();
+    let without_share = without_share.filter(|(place, _)| ![3, 10].contains(place));
+    let without_share: Vec<&String> = without_share.map(|(_, answer)| answer).collect();
+    assert_eq!(without_share, expected);
+    assert_eq!(
+        answers[11],
+        "server 0 n 5 f 1 starts 2200,700,700,700,700 tag 0 0 value - \
+         weights 626 2274 700 700 700 counts 1 1 0 0 0 cells 0>1:1648 1>0:74"
+    );
+}
+
+/// The lines of a house with a list, lawful or not: a refused one changes
+/// nothing.
+#[test]
+fn houses_with_lists() {
+    let script = [
+        "house 2 0 starts 300,100",
+        "house 2 0 starts -",
+        "house 2 0 starts 299,100,0",
+        "house 2 1 starts 300,100",
+        "house 3 2 starts -",
+        "house 2 0 starts 18446744073709551615,17",
+        "house 2 0 starts 9223372036854775808,9223372036854775808",
+        "record server 1",
+        "house 1 0 starts 16001",
+        "house 1 0 starts 0",
+        "house 1 0 starts 16000",
+        "record server 0",
+        "house 1 0 starts 1",
+        "record desk 7",
+    ];
+    let answers = answers_in("house 2 0 starts 299,100", &script);
+    let held = "tag 0 0 value - weights";
+    let expected = [
+        "ok".to_string(),
+        "no 15".to_string(),
+        "no 15".to_string(),
+        "no 15".to_string(),
+        "no 1".to_string(),
+        "no 1".to_string(),
+        "no 15".to_string(),
+        "no 15".to_string(),
+        format!("server 1 n 2 f 0 starts 299,100 {held} 299 100 counts 0 0 cells -"),
+        "no 15".to_string(),
+        "no 15".to_string(),
+        "ok".to_string(),
+        format!("server 0 n 1 f 0 starts 16000 {held} 16000 counts 0 cells -"),
+        "ok".to_string(),
+        format!(
+            "desk 7 n 1 f 0 starts 1 {held} 1 counts 0 cells - round 0 operation none none \
+             phase 0 note 0 restarts 0 answered - writing - chosen 0 0 -"
+        ),
+    ];
+    assert_eq!(answers, expected);
+}
+
+/// `message` goes by its own list, whatever house is open.
+#[test]
+fn messages_with_lists() {
+    let script = [
+        "message 2 0 starts 299,100 00030300",
+        "message 2 0 starts 300,100 00030300",
+        "message 2 0 starts 300,100 -",
+        "message 2 0 starts 299,100 -",
+        "message 2 1 starts 300,100 -",
+        "message 2 0 00030300",
+    ];
+    let answers = answers(3, 1, &script);
+    let fields = "ok kind 3 server 0 desk 0 round 0 tag 0 0 note 0 value - weights";
+    let rest = "cut 4 of 4 longer 2 again same";
+    let expected = [
+        format!("{fields} 299 100 {rest}"),
+        "no 15".to_string(),
+        "no 15".to_string(),
+        "no 2".to_string(),
+        "no 1".to_string(),
+        format!("{fields} 1000 1000 {rest}"),
+    ];
+    assert_eq!(answers[1..], expected);
 }

@@ -1,13 +1,14 @@
 //! The examples of paper 01, "Checked by the prover", on the model and on the
 //! proved library. Cases 1 to 6 are about a transfer; here they are the share
 //! that carries it: where the transfer passes the share is read, and where it
-//! would be thin the share is light. Cases 7 to 9 are margins (paper 02, N1).
+//! would be thin the share is light. Cases 7 to 9 are margins (paper 02, N1). All
+//! servers start level (N2).
 
 use model::answers::refusal;
 use model::format::{Kind, Message, Register};
 use model::runs::pace::pairs;
 use model::seats::{ALL_FREE, SOLD_OUT, TOO_LONG, TWO_SOLD};
-use model::weights::Ledger;
+use model::weights::{level, Ledger};
 use model::write::write;
 use model::{answers, proved};
 
@@ -18,20 +19,26 @@ const LIGHT: u8 = 5;
 const LONG: u8 = 14;
 
 fn check(n: u64, f: u64, msg: &[u8]) -> i64 {
-    both(answers::check(n, f, msg), proved::check(n, f, msg))
+    let starts = &level(n);
+    both(
+        answers::check(n, f, starts, msg),
+        proved::check(n, f, starts, msg),
+    )
 }
 
 fn weight(n: u64, f: u64, server: u64, msg: &[u8]) -> i64 {
+    let starts = &level(n);
     both(
-        answers::weight(n, f, server, msg),
-        proved::weight(n, f, server, msg),
+        answers::weight(n, f, starts, server, msg),
+        proved::weight(n, f, starts, server, msg),
     )
 }
 
 fn quorum(n: u64, f: u64, map: u64, msg: &[u8]) -> i64 {
+    let starts = &level(n);
     both(
-        answers::quorum(n, f, map, msg),
-        proved::quorum(n, f, map, msg),
+        answers::quorum(n, f, starts, map, msg),
+        proved::quorum(n, f, starts, map, msg),
     )
 }
 

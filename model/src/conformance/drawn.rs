@@ -17,7 +17,7 @@ use crate::runs::pace::{pairs, Pace};
 use crate::runs::player::Run;
 use crate::runs::script::Turn;
 use crate::runs::seen::{margin, shown};
-use crate::weights::{Ledger, START};
+use crate::weights::{Config, Ledger};
 
 /// Whose lines are taken.
 #[derive(Clone, Copy, Debug, PartialEq, Eq)]
@@ -106,8 +106,8 @@ fn richest(runs: &[Run], parties: Parties, bytes: usize) -> Vec<Line> {
 /// are put in when the others are chosen.
 fn with_margins<'a>(mut turns: Vec<&'a Turn>, run: &'a [Turn], party: Party) -> Vec<&'a Turn> {
     let end = turns.last().map_or(0, |last| last.number);
-    let n = run.iter().find_map(accepted_house).unwrap_or(0);
-    let mut told = BTreeSet::from([-START * n as i64]);
+    let config = run.iter().find_map(accepted_house);
+    let mut told = BTreeSet::from([-config.map_or(0, Config::total)]);
     let mut is_new = |turn: &&Turn| match turn.command {
         Command::Margin { desk } if party == Party::Desk(desk) => {
             margin(turn.answer()).is_some_and(|margin| told.insert(margin))
@@ -141,7 +141,8 @@ fn record(party: Party) -> Line {
 
 /// The servers of a run's cluster.
 pub fn servers(run: &Run) -> Vec<Party> {
-    let n = run.turns.iter().find_map(accepted_house).unwrap_or(0);
+    let config = run.turns.iter().find_map(accepted_house);
+    let n = config.map_or(0, Config::n) as u64;
     (0..n).map(Party::Server).collect()
 }
 
@@ -156,10 +157,10 @@ fn is_desk(desk: u64) -> bool {
     (1..=65_535).contains(&desk)
 }
 
-/// The n of a house that was opened.
-fn accepted_house(turn: &Turn) -> Option<u64> {
-    match turn.command {
-        Command::House { n, .. } if turn.answer() == "ok" => Some(n),
+/// The cluster of a house that was opened.
+fn accepted_house(turn: &Turn) -> Option<Config> {
+    match &turn.command {
+        Command::House { house } if turn.answer() == "ok" => house.config().ok(),
         _ => None,
     }
 }
@@ -174,7 +175,8 @@ fn of_party(turns: &[Turn], party: Party) -> Vec<&Turn> {
             break;
         }
         open = open.or(accepted_house(turn));
-        if is_about(turn, party, open.unwrap_or(0)) && !says_no_more(&kept, turn) {
+        let n = open.map_or(0, Config::n) as u64;
+        if is_about(turn, party, n) && !says_no_more(&kept, turn) {
             kept.push(turn);
         }
     }

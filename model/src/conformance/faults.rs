@@ -5,8 +5,8 @@
 
 use super::line::Line;
 use super::messages::{line, refused_one};
-use crate::answers::open;
-use crate::machine::command::Command;
+use crate::format::read;
+use crate::machine::command::{Command, House};
 use crate::machine::parse::parse;
 use crate::place::Place;
 use crate::random::Random;
@@ -53,23 +53,25 @@ pub fn lines(random: &mut Random) -> Vec<Line> {
     }
     // Longer than any message, and refused before its end is looked for.
     for front in [&[0x00, 0x83][..], &[0x00, 0x03, 0x04]] {
-        lines.push(line(5, 1, [front, &[0; 1_110]].concat()));
+        let bytes = [front, &[0; 1_110]].concat();
+        lines.push(line(House::level(5, 1), bytes));
     }
     lines
 }
 
 /// A message refused at the place, cut right after it, and with noise there.
 fn cut_and_followed(random: &mut Random, place: Place) -> [Line; 2] {
-    let Command::Message { n, f, bytes } = refused_one(random, place, None) else {
+    let Command::Message { house, bytes } = refused_one(random, place, None) else {
         panic!("it is a message");
     };
+    let config = house.config().expect("it is within bounds");
     let refused_there = |end: &usize| {
-        let found = open(n, f, &bytes[..*end]).err();
+        let found = read(config, &bytes[..*end]).err();
         found.is_some_and(|fault| fault.place == place)
     };
     let end = (0..=bytes.len()).find(refused_there);
     let cut = bytes[..end.expect("all of it is refused there")].to_vec();
     let more = random.within(1, 8) as usize;
     let followed = [&cut[..], &random.bytes(more)].concat();
-    [line(n, f, cut), line(n, f, followed)]
+    [line(house.clone(), cut), line(house, followed)]
 }

@@ -2,19 +2,20 @@
 //! those that are refused, at every place of paper 01's "Checks".
 
 use super::faults;
-use super::line::{request, share, sheet, Line, BAD_HOUSES};
+use super::line::{bad_lists, lists, request, share, sheet, Line, BAD_HOUSES};
 use super::sums::{self, MOST_IN_ROW};
 use super::SEED;
 use crate::aim::{aimed, Aimed};
 use crate::cases::Case;
 use crate::format::{Kind, Message};
 use crate::lawful;
-use crate::machine::command::Command;
+use crate::machine::command::{Command, House};
 use crate::machine::parse::parse;
 use crate::place::Place;
 use crate::random::{bad_cluster, Random};
 use crate::runs::pace::pairs;
-use crate::weights::{Config, START};
+use crate::starts::{config_of, uneven, unlawful};
+use crate::weights::Config;
 use crate::write::write;
 
 /// How long a message is that is drawn; a few are longer.
@@ -31,8 +32,9 @@ pub fn lines() -> Vec<Line> {
     let random = &mut Random::new(SEED);
     let mut lines = page();
     lines.extend(clusters(random));
+    lines.extend(starts(random));
     lines.extend(changed());
-    lines.extend(floors());
+    lines.extend(floors(random));
     lines.extend(totals());
     lines.extend(lawful_ones(random));
     lines.extend(refused_ones(random));
@@ -42,8 +44,9 @@ pub fn lines() -> Vec<Line> {
     lines
 }
 
-pub fn line(n: u64, f: u64, bytes: Vec<u8>) -> Line {
-    Command::Message { n, f, bytes }
+pub fn line(house: impl Into<House>, bytes: Vec<u8>) -> Line {
+    let house = house.into();
+    Command::Message { house, bytes }
 }
 
 /// The messages of docs/FORMAT.md.
@@ -66,13 +69,44 @@ fn clusters(random: &mut Random) -> Vec<Line> {
     bad.extend((0..16).map(|_| bad_cluster(random)));
     let mut lines: Vec<Line> = Vec::new();
     for (n, f) in bad {
-        lines.push(line(n, f, write(&share(0))));
+        lines.push(line(House::level(n, f), write(&share(0))));
     }
     // 1 comes before everything else.
     for bytes in [vec![], vec![0], vec![0xFF; 2], write(&request(4, 1, 1))] {
-        lines.push(line(17, 3, bytes.clone()));
-        lines.push(line(5, 3, bytes.clone()));
-        lines.push(line(5, 2, bytes));
+        lines.push(line(House::level(17, 3), bytes.clone()));
+        lines.push(line(House::level(5, 3), bytes.clone()));
+        lines.push(line(House::level(5, 2), bytes));
+    }
+    lines
+}
+
+/// Lists of start weights, each with a message that has no sheet: those that are
+/// lawful, and those that are not, which is 15 before anything is read and after
+/// n and f. A level list is as none.
+fn starts(random: &mut Random) -> Vec<Line> {
+    let fresh = || write(&share(0));
+    let mut lines: Vec<Line> = lists().map(|house| line(house, fresh())).collect();
+    lines.extend(bad_lists().map(|house| line(house, fresh())));
+    for (n, f) in pairs().into_iter().step_by(2) {
+        let starts = unlawful(random, n, f);
+        lines.push(line(House::with_starts(n, f, starts), fresh()));
+    }
+    let torn = [vec![], vec![0], vec![0xFF; 2], vec![0, 3, 9]];
+    for bytes in torn.into_iter().chain([write(&request(9, 1, 1))]) {
+        for (n, f, starts) in [
+            (2, 0, vec![300, 100]),
+            (2, 0, vec![]),
+            (2, 0, vec![299, 100]),
+            (2, 1, vec![300, 100]),
+            (17, 3, vec![]),
+            (0, 0, vec![]),
+        ] {
+            lines.push(line(House::with_starts(n, f, starts), bytes.clone()));
+        }
+    }
+    for n in [1, 5, 16] {
+        let house = House::with_starts(n, (n - 1) / 2, vec![1_000; n as usize]);
+        lines.push(line(house, fresh()));
     }
     lines
 }
@@ -84,7 +118,7 @@ fn changed() -> Vec<Line> {
         Command::Message { bytes, .. } => bytes.len(),
         _ => 0,
     });
-    let Some(Command::Message { n, f, bytes }) = long else {
+    let Some(Command::Message { house, bytes }) = long else {
         panic!("the page has messages");
     };
     let cut = (0..bytes.len()).map(|end| bytes[..end].to_vec());
@@ -93,11 +127,13 @@ fn changed() -> Vec<Line> {
         bytes[place / 2] ^= if place % 2 == 0 { 0x01 } else { 0x80 };
         bytes
     });
-    cut.chain(turned).map(|bytes| line(n, f, bytes)).collect()
+    let lines = cut.chain(turned);
+    lines.map(|bytes| line(house.clone(), bytes)).collect()
 }
 
-/// In every cluster a gift of all that a server can spare, and one of 1 more.
-fn floors() -> Vec<Line> {
+/// In every cluster, level and not, a gift of all that a server can spare, and
+/// one of 1 more.
+fn floors(random: &mut Random) -> Vec<Line> {
     let mut lines = Vec::new();
     for (n, f) in pairs().into_iter().filter(|(n, _)| *n > 1) {
         let giver = (f as usize + 1) % n as usize;
@@ -107,14 +143,25 @@ fn floors() -> Vec<Line> {
         } else {
             taker
         };
-        let spare = Config::level(n, f).spare(START) as u32;
-        for gift in [spare, spare + 1] {
-            let ledger = sheet(&[(giver, 1, &[(taker, gift)])]);
-            let message = Message { ledger, ..share(0) };
-            lines.push(line(n, f, write(&message)));
-        }
+        lines.extend(floor(Config::level(n, f), giver, taker));
+        let starts = uneven(random, n, f);
+        let config = Config::new(n, f, &starts).expect("it is lawful");
+        let strong = (0..n as usize).max_by_key(|&server| starts[server]);
+        let giver = strong.expect("n is not 0");
+        lines.extend(floor(config, giver, (giver + 1) % n as usize));
     }
     lines
+}
+
+fn floor(config: Config, giver: usize, taker: usize) -> Vec<Line> {
+    let spare = config.spare(config.start_weights()[giver]) as u32;
+    // Where it can spare nothing, there is no gift that passes.
+    let gifts = [spare, spare + 1].into_iter().filter(|gift| *gift > 0);
+    let line_of = |gift| {
+        let ledger = sheet(&[(giver, 1, &[(taker, gift)])]);
+        line(config, write(&Message { ledger, ..share(0) }))
+    };
+    gifts.map(line_of).collect()
 }
 
 /// Rows whose totals are at their least, at their most, and 1 beyond; then sums
@@ -130,15 +177,17 @@ fn totals() -> Vec<Line> {
             let back = [(0, total)];
             let ledger = sheet(&[(0, count, &there), (1, count, &back)]);
             let message = Message { ledger, ..share(1) };
-            lines.push(line(2, 0, write(&message)));
+            lines.push(line(House::level(2, 0), write(&message)));
         }
     }
     let most = [(1, MOST_IN_ROW - 3), (2, 1), (3, 1), (4, 1)];
     let back = [(0, MOST_IN_ROW - 3)];
     let ledger = sheet(&[(0, 65_535, &most), (1, 65_535, &back)]);
-    lines.push(line(5, 1, write(&Message { ledger, ..share(1) })));
+    let message = Message { ledger, ..share(1) };
+    lines.push(line(House::level(5, 1), write(&message)));
     for sums::Refused { n, f, ledger } in sums::totals().into_iter().chain(sums::weights()) {
-        lines.push(line(n, f, write(&Message { ledger, ..share(0) })));
+        let message = Message { ledger, ..share(0) };
+        lines.push(line(House::level(n, f), write(&message)));
     }
     lines
 }
@@ -148,7 +197,8 @@ fn lawful_ones(random: &mut Random) -> Vec<Line> {
     let mut lines = Vec::new();
     for (n, f) in pairs() {
         for kind in [Kind::Request, Kind::Reply, Kind::Share] {
-            lines.push(line(n, f, lawful_one(random, Config::level(n, f), kind)));
+            let config = config_of(random, n, f);
+            lines.push(line(config, lawful_one(random, config, kind)));
         }
     }
     lines
@@ -170,7 +220,7 @@ fn refused_ones(random: &mut Random) -> Vec<Line> {
     let places: Vec<Place> = Place::ALL
         .iter()
         .copied()
-        .filter(|place| *place != Place::House)
+        .filter(|place| place.is_in_message())
         .collect();
     let mut lines = Vec::new();
     for &place in &places {
@@ -190,11 +240,11 @@ pub fn refused_one(random: &mut Random, place: Place, also: Option<Place>) -> Li
     let mut draws = (0..40).map(|_| aimed(random, place, also));
     let first = draws.next().expect("there are 40");
     let short = |drawn: &Aimed| drawn.bytes.len() <= SHORT;
-    let Aimed { n, f, bytes, .. } = match short(&first) {
+    let Aimed { config, bytes, .. } = match short(&first) {
         true => first,
         false => draws.find(short).unwrap_or(first),
     };
-    line(n, f, bytes)
+    line(config, bytes)
 }
 
 /// The longest messages of some clusters, and the longest of all cut by a byte
@@ -203,13 +253,14 @@ fn longest_ones(random: &mut Random) -> Vec<Line> {
     let mut lines = Vec::new();
     for (n, f) in [(1, 0), (2, 0), (5, 1), (9, 4), (16, 7)] {
         let mut room = [0; 64];
-        let message = lawful::longest(random, Config::level(n, f), &mut room);
+        let config = Config::level(n, f);
+        let message = lawful::longest(random, config, &mut room);
         let bytes = write(&message);
         if n == 16 {
-            lines.push(line(n, f, bytes[..bytes.len() - 1].to_vec()));
-            lines.push(line(n, f, [&bytes[..], &[0]].concat()));
+            lines.push(line(config, bytes[..bytes.len() - 1].to_vec()));
+            lines.push(line(config, [&bytes[..], &[0]].concat()));
         }
-        lines.push(line(n, f, bytes));
+        lines.push(line(config, bytes));
     }
     lines
 }
@@ -218,6 +269,9 @@ fn longest_ones(random: &mut Random) -> Vec<Line> {
 fn any() -> Vec<Line> {
     let cases = (0..).map(|number| Case::draw(SEED, number));
     let short = cases.filter(|case| case.message.len() <= SHORT);
-    let lines = short.map(|case| line(case.n, case.f, case.message));
+    let lines = short.map(|case| {
+        let house = House::with_starts(case.n, case.f, case.starts);
+        line(house, case.message)
+    });
     lines.take(CASES).collect()
 }

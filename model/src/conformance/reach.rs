@@ -7,12 +7,14 @@ pub const MESSAGES: &[(&str, u64)] = &[
     ("message: no 2", 100),
     ("message: no 3", 50),
     ("message: no 4", 150),
-    ("message: no 5", 70),
+    ("message: no 5", 120),
+    ("message: no 15", 60),
 ];
 
 pub const SERVER: &[(&str, u64)] = &[
-    ("house: ok", 160),
+    ("house: ok", 240),
     ("house: no 1", 15),
+    ("house: no 15", 25),
     ("serve: a request is answered", 300),
     ("serve: a share is taken", 200),
     ("serve: no 1", 20),
@@ -35,8 +37,9 @@ pub const SERVER: &[(&str, u64)] = &[
 ];
 
 pub const DESK: &[(&str, u64)] = &[
-    ("house: ok", 80),
+    ("house: ok", 100),
     ("house: no 1", 15),
+    ("house: no 15", 25),
     ("begin: a read", 80),
     ("begin: a write", 60),
     ("begin: no 1", 15),

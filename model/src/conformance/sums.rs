@@ -4,7 +4,7 @@
 use super::line::{sheet, Row};
 use crate::weights::{Ledger, MOST};
 
-/// A cluster and a sheet that is refused there.
+/// A level cluster and a sheet that is refused there.
 pub struct Refused {
     pub n: u64,
     pub f: u64,
@@ -59,10 +59,10 @@ fn many_to_one(many: usize) -> Vec<Row<'static>> {
 #[cfg(test)]
 mod tests {
     use super::*;
-    use crate::answers::open;
     use crate::conformance::line::share;
-    use crate::format::Message;
+    use crate::format::{read, Message};
     use crate::place::Place;
+    use crate::weights::Config;
     use crate::write::write;
 
     fn place(refused: &Refused) -> Option<Place> {
@@ -70,7 +70,8 @@ mod tests {
             ledger: refused.ledger.clone(),
             ..share(0)
         };
-        let found = open(refused.n, refused.f, &write(&message)).err();
+        let config = Config::level(refused.n, refused.f);
+        let found = read(config, &write(&message)).err();
         found.map(|fault| fault.place)
     }
 
@@ -96,7 +97,7 @@ mod tests {
     #[test]
     fn weights_of_the_first_are_above_the_floor_in_32_bits() {
         let Refused { n, f, ledger } = &weights()[0];
-        for weight in &ledger.weights()[..*n as usize] {
+        for weight in &ledger.weights(Config::level(*n, *f))[..*n as usize] {
             let narrow = (*weight as i32).wrapping_mul(2 * (n - f) as i32);
             assert!(narrow > 1_000 * *n as i32);
             assert!((narrow as u32) > 1_000 * *n as u32);

@@ -4,6 +4,7 @@
 
 use std::collections::BTreeMap;
 
+use super::command::House;
 use super::desk::{Desk, Heard, Outcome, Task};
 use super::letter::Letter;
 use super::number::No;
@@ -40,6 +41,11 @@ impl<S: Sheet> Cluster<S> {
 
 /// The calls of a store. Servers are below n, desks are numbers that a desk has.
 pub trait Calls<S: Sheet> {
+    /// The cluster that all parties are opened with.
+    fn open(&self, house: &House) -> Result<Config, No> {
+        house.config().map_err(|place| No(place.number()))
+    }
+
     fn transfer(
         &self,
         cluster: &mut Cluster<S>,

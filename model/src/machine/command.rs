@@ -5,12 +5,67 @@
 use std::fmt::Write;
 
 use super::desk::Task;
+use super::record::listed;
 use super::server::Room;
+use crate::place::Place;
+use crate::weights::{level, Config};
+
+/// A cluster as a line gives it: n, f and the start weights. Without a list the
+/// servers start level.
+#[derive(Clone, Debug, PartialEq, Eq)]
+pub struct House {
+    pub n: u64,
+    pub f: u64,
+    pub starts: Option<Vec<u64>>,
+}
+
+impl House {
+    /// A cluster whose servers start level, without a list.
+    pub fn level(n: u64, f: u64) -> House {
+        House { n, f, starts: None }
+    }
+
+    /// A cluster with this list.
+    pub fn with_starts(n: u64, f: u64, starts: Vec<u64>) -> House {
+        let starts = Some(starts);
+        House { n, f, starts }
+    }
+
+    /// The start weights, also where they are not in the line.
+    pub fn starts(&self) -> Vec<u64> {
+        self.starts.clone().unwrap_or_else(|| level(self.n))
+    }
+
+    /// The cluster that it opens, if it is one.
+    pub fn config(&self) -> Result<Config, Place> {
+        Config::new(self.n, self.f, &self.starts())
+    }
+
+    /// The words of a line that give it.
+    fn words(&self) -> String {
+        let House { n, f, starts } = self;
+        match starts {
+            None => format!("{n} {f}"),
+            Some(starts) => format!("{n} {f} starts {}", listed(starts, ",")),
+        }
+    }
+}
+
+impl From<Config> for House {
+    /// Without a list where the servers start level.
+    fn from(config: Config) -> House {
+        let (n, f, starts) = (config.n() as u64, config.f() as u64, config.starts());
+        match config.is_level() {
+            true => House::level(n, f),
+            false => House::with_starts(n, f, starts),
+        }
+    }
+}
 
 /// One line. `Text` is a line as it stands, readable or not.
 #[derive(Clone, Debug, PartialEq, Eq)]
 pub enum Command<M> {
-    House { n: u64, f: u64 },
+    House { house: House },
     Begin { desk: u64, task: Task, note: u32 },
     Ask { desk: u64, server: u64, room: Room },
     Share { server: u64, room: Room },
@@ -27,7 +82,7 @@ pub enum Command<M> {
     Seats { bytes: Vec<u8> },
     Named { map: u16 },
     Value { bytes: Vec<u8> },
-    Message { n: u64, f: u64, bytes: Vec<u8> },
+    Message { house: House, bytes: Vec<u8> },
     RecordServer { server: u64 },
     RecordDesk { desk: u64 },
     Text(String),
@@ -36,7 +91,8 @@ pub enum Command<M> {
 impl<M> Command<M> {
     /// The line that opens a house of n and f whose servers start level.
     pub fn level(n: u64, f: u64) -> Command<M> {
-        Command::House { n, f }
+        let house = House::level(n, f);
+        Command::House { house }
     }
 
     /// The same command, its message named in another way, if it has one.
@@ -55,7 +111,9 @@ impl<M> Command<M> {
                 desk: *desk,
                 message: name(message)?,
             },
-            Command::House { n, f } => Command::House { n: *n, f: *f },
+            Command::House { house } => Command::House {
+                house: house.clone(),
+            },
             Command::Begin { desk, task, note } => Command::Begin {
                 desk: *desk,
                 task: task.clone(),
@@ -94,9 +152,8 @@ impl<M> Command<M> {
             Command::Value { bytes } => Command::Value {
                 bytes: bytes.clone(),
             },
-            Command::Message { n, f, bytes } => Command::Message {
-                n: *n,
-                f: *f,
+            Command::Message { house, bytes } => Command::Message {
+                house: house.clone(),
                 bytes: bytes.clone(),
             },
             &Command::RecordServer { server } => Command::RecordServer { server },
@@ -174,7 +231,7 @@ impl<M> Command<M> {
     /// The words of the line, bytes as one word of hex.
     pub fn line<'a>(&'a self, bytes_of: impl Fn(&'a M) -> &'a [u8]) -> String {
         match self {
-            Command::House { n, f } => format!("house {n} {f}"),
+            Command::House { house } => format!("house {}", house.words()),
             Command::Begin { desk, task, note } => match task {
                 Task::Read => format!("begin {desk} read {note}"),
                 Task::Write(value) => format!("begin {desk} write {note} {}", hex(value)),
@@ -207,7 +264,9 @@ impl<M> Command<M> {
             Command::Seats { bytes } => format!("seats {}", hex(bytes)),
             Command::Named { map } => format!("named {map}"),
             Command::Value { bytes } => format!("value {}", hex(bytes)),
-            Command::Message { n, f, bytes } => format!("message {n} {f} {}", hex(bytes)),
+            Command::Message { house, bytes } => {
+                format!("message {} {}", house.words(), hex(bytes))
+            }
             Command::RecordServer { server } => format!("record server {server}"),
             Command::RecordDesk { desk } => format!("record desk {desk}"),
             Command::Text(text) => text.clone(),

@@ -18,8 +18,8 @@ impl Sheet for Ledger {
         self.counts[giver].into()
     }
 
-    fn weights(&self) -> [i64; MOST] {
-        Ledger::weights(self)
+    fn weights(&self, config: Config) -> [i64; MOST] {
+        Ledger::weights(self, config)
     }
 
     fn ledger(&self) -> Ledger {

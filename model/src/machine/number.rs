@@ -1,4 +1,4 @@
-//! The numbers handed out: paper 01, "Numbers handed out".
+//! The numbers handed out: paper 01, "Numbers handed out", and paper 02.
 
 /// A refusal, by its number.
 #[derive(Clone, Copy, Debug, PartialEq, Eq)]
@@ -15,4 +15,5 @@ impl No {
     pub const SPENT: No = No(12);
     pub const NARROW: No = No(13);
     pub const LONG: No = No(14);
+    pub const BAD_START: No = No(15);
 }

@@ -2,7 +2,7 @@
 //! Words stand apart by spaces, tabs or carriage returns, and `#` starts a
 //! comment. What cannot be read is answered `what`.
 
-use super::command::Command;
+use super::command::{Command, House};
 use super::desk::Task;
 use super::server::Room;
 
@@ -57,6 +57,28 @@ fn pairs(digits: &[u8]) -> Readable<Vec<u8>> {
         .collect()
 }
 
+/// Decimal digits, for a number up to the most.
+fn fitting(word: &str, most: u64) -> Readable<u64> {
+    if !word.bytes().all(|byte| byte.is_ascii_digit()) {
+        return Err(Unreadable);
+    }
+    match word.parse() {
+        Ok(number) if number <= most => Ok(number),
+        _ => Err(Unreadable),
+    }
+}
+
+/// Numbers apart by commas, `-` for none.
+fn numbers(word: &str) -> Readable<Vec<u64>> {
+    match word {
+        "-" => Ok(Vec::new()),
+        _ => word
+            .split(',')
+            .map(|word| fitting(word, u64::MAX))
+            .collect(),
+    }
+}
+
 /// The words not read yet.
 struct Words<'a> {
     rest: Vec<&'a str>,
@@ -66,8 +88,7 @@ impl<'a> Words<'a> {
     fn command(&mut self) -> Readable<Command<Vec<u8>>> {
         Ok(match self.word()? {
             "house" => Command::House {
-                n: self.number()?,
-                f: self.number()?,
+                house: self.house()?,
             },
             "begin" => {
                 let desk = self.number()?;
@@ -139,8 +160,7 @@ impl<'a> Words<'a> {
                 bytes: self.bytes()?,
             },
             "message" => Command::Message {
-                n: self.number()?,
-                f: self.number()?,
+                house: self.house()?,
                 bytes: self.bytes()?,
             },
             "record" => match self.word()? {
@@ -167,16 +187,21 @@ impl<'a> Words<'a> {
         self.fitting(u64::MAX)
     }
 
-    /// Decimal digits, for a number up to the most.
     fn fitting(&mut self, most: u64) -> Readable<u64> {
-        let word = self.word()?;
-        if !word.bytes().all(|byte| byte.is_ascii_digit()) {
-            return Err(Unreadable);
-        }
-        match word.parse() {
-            Ok(number) if number <= most => Ok(number),
-            _ => Err(Unreadable),
-        }
+        fitting(self.word()?, most)
+    }
+
+    /// n and f, and the list of start weights where the word `starts` stands.
+    fn house(&mut self) -> Readable<House> {
+        let (n, f) = (self.number()?, self.number()?);
+        let starts = match self.rest.first() {
+            Some(&"starts") => {
+                self.word()?;
+                Some(numbers(self.word()?)?)
+            }
+            _ => None,
+        };
+        Ok(House { n, f, starts })
     }
 
     fn room(&mut self) -> Readable<Room> {
@@ -212,6 +237,25 @@ mod tests {
             parse("seats -"),
             Ok(Some(Command::Seats { bytes: Vec::new() }))
         );
+        for (text, starts) in [
+            ("house 2 0", None),
+            ("house 2 0 starts -", Some(vec![])),
+            ("house 2 0 starts 7", Some(vec![7])),
+            ("house 2 0\tstarts 0299,00 # ,", Some(vec![299, 0])),
+            (
+                "house 2 0 starts 18446744073709551615,1,1",
+                Some(vec![u64::MAX, 1, 1]),
+            ),
+        ] {
+            let (n, f) = (2, 0);
+            let house = House { n, f, starts };
+            assert_eq!(parse(text), Ok(Some(Command::House { house })), "{text}");
+        }
+        let message = Command::Message {
+            house: House::with_starts(1, 0, vec![16_000]),
+            bytes: vec![0, 3],
+        };
+        assert_eq!(parse("message 1 0 starts 16000 00 03"), Ok(Some(message)));
     }
 
     #[test]
@@ -233,6 +277,18 @@ mod tests {
             "begin 1 write 0",
             "named 65536",
             "record cell 1",
+            "house 2 0 1000",
+            "house 2 0 starts",
+            "house 2 0 start 1000,1000",
+            "house 2 starts 1000,1000",
+            "house 2 0 starts 1000 1000",
+            "house 2 0 starts 1000, 1000",
+            "house 2 0 starts ,1000",
+            "house 2 0 starts 1000,,1000",
+            "house 2 0 starts 1000,-",
+            "house 2 0 starts 18446744073709551616",
+            "message 2 0 starts 1000,1000",
+            "message 2 0 00 starts 1000,1000",
         ] {
             assert_eq!(parse(text), Err(Unreadable), "{text}");
         }

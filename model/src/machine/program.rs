@@ -95,8 +95,8 @@ impl<S: Sheet, C: Calls<S>> Program<S, C> {
 
     fn obey(&mut self, command: &Command<Handed>) -> Step<Answer> {
         match command {
-            &Command::House { n, f } => {
-                let config = Config::new(n, f).map_err(|_| No::BAD_HOUSE)?;
+            Command::House { house } => {
+                let config = self.calls.open(house)?;
                 self.cluster = Some(Cluster::fresh(config));
                 self.sent.clear();
                 Ok(Answer::Done)
@@ -262,28 +262,30 @@ pub fn answer(
     Some(answer.unwrap_or_else(|early| early))
 }
 
-/// The commands that need no record. Before a house n and f are 0. Those that a
-/// C host has are answered by its calls.
+/// The commands that need no record. Before a house n and f are 0, whatever the
+/// list. Those that a C host has are answered by its calls.
 pub fn of_message(config: Option<Config>, host: &host::Calls, command: &Command<Handed>) -> Answer {
     let (n, f) = config.map_or((0, 0), |config| (config.n() as u64, config.f() as u64));
+    let starts = config.map_or(Vec::new(), Config::starts);
     let number = match command {
-        Command::Check { bytes } => (host.check)(n, f, bytes),
-        Command::Weight { server, bytes } => (host.weight)(n, f, *server, bytes),
-        Command::Quorum { map, bytes } => (host.quorum)(n, f, *map, bytes),
+        Command::Check { bytes } => (host.check)(n, f, &starts, bytes),
+        Command::Weight { server, bytes } => (host.weight)(n, f, &starts, *server, bytes),
+        Command::Quorum { map, bytes } => (host.quorum)(n, f, &starts, *map, bytes),
         Command::Seats { bytes } => (host.seats)(bytes),
         Command::Named { map } => match config {
             Some(config) if config.names_servers((*map).into()) => map.count_ones().into(),
             _ => return Answer::Refused(No::BAD_HOUSE),
         },
         Command::Value { bytes } => {
-            let register = match answers::open(n, f, bytes) {
+            let register = match answers::open(n, f, &starts, bytes) {
                 Ok((_, message)) => message.register,
                 Err(_) => None,
             };
             return Answer::Words(hex(register.map_or(&[], |register| register.value)));
         }
-        Command::Message { n, f, bytes } => {
-            return vector(*n, *f, bytes).map_or_else(Answer::Refused, Answer::Words)
+        Command::Message { house, bytes } => {
+            let words = vector(house.n, house.f, &house.starts(), bytes);
+            return words.map_or_else(Answer::Refused, Answer::Words);
         }
         _ => return Answer::What,
     };

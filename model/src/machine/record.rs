@@ -36,12 +36,13 @@ fn pair_words<S: Sheet>(config: Config, pair: &Pair<S>) -> String {
     }
     let Register { tag, value } = &pair.register;
     format!(
-        "n {n} f {} tag {} {} value {} weights {} counts {} cells {}",
+        "n {n} f {} starts {} tag {} {} value {} weights {} counts {} cells {}",
         config.f(),
+        listed(&config.starts(), ","),
         tag.stamp,
         tag.desk,
         hex(value),
-        listed(&pair.sheet.weights()[..n], " "),
+        listed(&pair.sheet.weights(config)[..n], " "),
         listed(&ledger.counts[..n], " "),
         listed(&cells, " "),
     )
@@ -93,7 +94,7 @@ fn register_words(register: &Register) -> String {
 }
 
 /// A list, `-` for none.
-fn listed(list: &[impl ToString], between: &str) -> String {
+pub fn listed(list: &[impl ToString], between: &str) -> String {
     if list.is_empty() {
         return "-".to_string();
     }

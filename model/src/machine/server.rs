@@ -63,7 +63,7 @@ impl<S: Sheet> Server<S> {
         if self.pair.sheet.count(self.number) >= MOST_TRANSFERS {
             return Err(No::SPENT);
         }
-        let weight = sheet.weight(self.number);
+        let weight = sheet.weight(config, self.number);
         let rest = i128::from(weight) - i128::from(amount);
         match i64::try_from(rest) {
             Ok(rest) if rest > 0 && config.above_floor(rest) => Ok(()),

@@ -15,12 +15,12 @@ pub trait Sheet: Clone {
     /// How many transfers of this giver it has.
     fn count(&self, giver: usize) -> usize;
 
-    /// What every server weighs: 1,000 + received − given.
-    fn weights(&self) -> [i64; MOST];
+    /// What every server weighs: its start weight + received − given.
+    fn weights(&self, config: Config) -> [i64; MOST];
 
     /// What one server weighs.
-    fn weight(&self, server: usize) -> i64 {
-        self.weights()[server]
+    fn weight(&self, config: Config, server: usize) -> i64 {
+        self.weights(config)[server]
     }
 
     /// Its counts and cells.
@@ -43,7 +43,7 @@ pub trait Sheet: Clone {
 
     /// The margin of the servers that a map names: above 0 they are a quorum.
     fn margin(&self, config: Config, map: u16) -> i64 {
-        config.margin(&self.weights(), map)
+        config.margin(&self.weights(config), map)
     }
 }
 

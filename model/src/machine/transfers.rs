@@ -9,7 +9,7 @@ use super::letter::Letter;
 use super::number::No;
 use super::register::Pair;
 use super::sheet::{Handed, Party, Sheet};
-use crate::weights::{Config, Ledger, MOST, START};
+use crate::weights::{Config, Ledger, MOST};
 
 /// Giver i, its number k from 1, taker j, amount d.
 #[derive(Clone, Copy, Debug, PartialEq, Eq, PartialOrd, Ord)]
@@ -75,8 +75,8 @@ impl Sheet for Transfers {
         before(giver + 1) - before(giver)
     }
 
-    fn weights(&self) -> [i64; MOST] {
-        let mut weights = [START; MOST];
+    fn weights(&self, config: Config) -> [i64; MOST] {
+        let mut weights = config.start_weights();
         for transfer in self.iter() {
             weights[usize::from(transfer.giver)] -= i64::from(transfer.amount);
             weights[usize::from(transfer.taker)] += i64::from(transfer.amount);
@@ -84,12 +84,12 @@ impl Sheet for Transfers {
         weights
     }
 
-    fn weight(&self, server: usize) -> i64 {
+    fn weight(&self, config: Config, server: usize) -> i64 {
         let is_server = |party: u8| i64::from(usize::from(party) == server);
         let gain = |transfer: &Transfer| {
             i64::from(transfer.amount) * (is_server(transfer.taker) - is_server(transfer.giver))
         };
-        START + self.iter().map(gain).sum::<i64>()
+        config.start_weights()[server] + self.iter().map(gain).sum::<i64>()
     }
 
     fn ledger(&self) -> Ledger {
@@ -190,11 +190,18 @@ mod tests {
         sheet.add(0, 2, 200);
         sheet.add(0, 1, 30);
         sheet.add(2, 0, 7);
-        assert_eq!(sheet.weights()[..3], [777, 1_030, 1_193]);
         let ledger = sheet.ledger();
         assert_eq!(ledger.counts[..3], [2, 0, 1]);
         assert_eq!(ledger.cells[0][..3], [0, 30, 200]);
-        assert_eq!(ledger.weights(), sheet.weights());
-        assert!((0..MOST).all(|server| sheet.weight(server) == sheet.weights()[server]));
+        let uneven = Config::new(3, 0, &[2_000, 700, 900]).expect("it is lawful");
+        for (config, weights) in [
+            (Config::level(3, 0), [777, 1_030, 1_193]),
+            (uneven, [1_777, 730, 1_093]),
+        ] {
+            assert_eq!(sheet.weights(config)[..3], weights);
+            assert_eq!(ledger.weights(config), sheet.weights(config));
+            let one = |server| sheet.weight(config, server);
+            assert_eq!(std::array::from_fn(one), sheet.weights(config));
+        }
     }
 }

@@ -4,24 +4,24 @@
 use super::command::hex;
 use super::number::No;
 use crate::answers::open;
-use crate::format::Register;
+use crate::format::{read, Register};
 use crate::place::Place;
 use crate::write::write;
 
 /// The fields, the weights, and what the message comes to cut short, made
 /// longer and written again; or the number that refuses it.
-pub fn vector(n: u64, f: u64, bytes: &[u8]) -> Result<String, No> {
-    let (config, message) = open(n, f, bytes).map_err(|fault| No(fault.number))?;
+pub fn vector(n: u64, f: u64, starts: &[u64], bytes: &[u8]) -> Result<String, No> {
+    let (config, message) = open(n, f, starts, bytes).map_err(|fault| No(fault.number))?;
     let Register { stamp, desk, value } = message.register.unwrap_or(Register {
         stamp: 0,
         desk: 0,
         value: &[],
     });
-    let weights = message.ledger.weights()[..config.n()]
+    let weights = message.ledger.weights(config)[..config.n()]
         .iter()
         .map(|weight| format!(" {weight}"))
         .collect::<String>();
-    let number = |bytes: &[u8]| open(n, f, bytes).map_or_else(|fault| fault.number, |_| 0);
+    let number = |bytes: &[u8]| read(config, bytes).map_or_else(|fault| fault.number, |_| 0);
     let torn = |end: &usize| number(&bytes[..*end]) == Place::TornMap.number();
     let cut = (0..bytes.len()).filter(torn).count();
     let longer = number(&[bytes, &[0]].concat());

@@ -4,7 +4,13 @@ use super::records::{Desk, DeskAnswer, ResultAnswer};
 use super::{start, start_mut};
 
 extern "C" {
-    fn tovridsa_open_desk(n: u64, f: u64, number: u64) -> DeskAnswer;
+    fn tovridsa_open_desk(
+        n: u64,
+        f: u64,
+        number: u64,
+        starts: *const u64,
+        starts_len: usize,
+    ) -> DeskAnswer;
     fn tovridsa_begin_read(desk: Desk, note: u32) -> DeskAnswer;
     fn tovridsa_begin_write(desk: Desk, note: u32, value: *const u8, len: usize) -> DeskAnswer;
     fn tovridsa_ask(desk: Desk, server: u64, out: *mut u8, len: usize, at: usize) -> i64;
@@ -16,10 +22,12 @@ extern "C" {
 }
 
 /// A fresh record.
-pub fn open(n: u64, f: u64, number: u64) -> DeskAnswer {
-    // SAFETY: numbers are passed by value and may be any; the record that is
+pub fn open(n: u64, f: u64, number: u64, starts: &[u64]) -> DeskAnswer {
+    // SAFETY: numbers are passed by value and may be any; the list's pointer is
+    // aligned and valid for reads of its length, during the whole call; the
+    // function only reads those numbers and keeps no pointer. The record that is
     // handed back is of plain numbers, for which any bits are fine.
-    unsafe { tovridsa_open_desk(n, f, number) }
+    unsafe { tovridsa_open_desk(n, f, number, start(starts), starts.len()) }
 }
 
 /// Begins a read.

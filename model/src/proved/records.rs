@@ -23,10 +23,11 @@ macro_rules! records {
 }
 
 records! {
-    /// The cluster.
-    16 Config {
+    /// The cluster, with what its servers weigh at the start, 0 from n on.
+    48 Config {
         n: u64,
         f: u64,
+        starts: [u16; MOST],
     }
 
     /// The transfers that a party knows: how many giver i made, and what it gave
@@ -55,7 +56,7 @@ records! {
         register: Register,
     }
 
-    1152 Server {
+    1184 Server {
         config: Config,
         number: u64,
         replica: Replica,
@@ -74,7 +75,7 @@ records! {
         chosen: Register,
     }
 
-    1312 Desk {
+    1344 Desk {
         config: Config,
         number: u64,
         replica: Replica,
@@ -83,20 +84,20 @@ records! {
     }
 
     /// An answer, and the server's record after the call.
-    1160 ServerAnswer {
+    1192 ServerAnswer {
         answer: i64,
         server: Server,
     }
 
     /// The same of serve, and the place in the buffer after the reply.
-    1168 ServeAnswer {
+    1200 ServeAnswer {
         answer: i64,
         end: u64,
         server: Server,
     }
 
     /// An answer, and the desk's record after the call.
-    1320 DeskAnswer {
+    1352 DeskAnswer {
         answer: i64,
         desk: Desk,
     }
@@ -108,6 +109,15 @@ records! {
         kind: u32,
         register: Register,
     }
+}
+
+impl Config {
+    /// No cluster: all is 0.
+    pub const NONE: Config = Config {
+        n: 0,
+        f: 0,
+        starts: [0; MOST],
+    };
 }
 
 impl Register {
@@ -159,7 +169,7 @@ impl Operation {
 impl Server {
     /// What a refused open hands back: all is 0.
     pub const NONE: Server = Server {
-        config: Config { n: 0, f: 0 },
+        config: Config::NONE,
         number: 0,
         replica: Replica::START,
     };
@@ -168,7 +178,7 @@ impl Server {
 impl Desk {
     /// The same of a desk.
     pub const NONE: Desk = Desk {
-        config: Config { n: 0, f: 0 },
+        config: Config::NONE,
         number: 0,
         replica: Replica::START,
         round: 0,

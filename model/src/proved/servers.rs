@@ -4,7 +4,13 @@ use super::records::{ServeAnswer, Server, ServerAnswer};
 use super::{start, start_mut};
 
 extern "C" {
-    fn tovridsa_open_server(n: u64, f: u64, number: u64) -> ServerAnswer;
+    fn tovridsa_open_server(
+        n: u64,
+        f: u64,
+        number: u64,
+        starts: *const u64,
+        starts_len: usize,
+    ) -> ServerAnswer;
     fn tovridsa_transfer(server: Server, taker: u64, amount: u64) -> ServerAnswer;
     fn tovridsa_share(server: Server, out: *mut u8, len: usize, at: usize) -> i64;
     fn tovridsa_serve(
@@ -18,10 +24,12 @@ extern "C" {
 }
 
 /// A fresh record.
-pub fn open(n: u64, f: u64, number: u64) -> ServerAnswer {
-    // SAFETY: numbers are passed by value and may be any; the record that is
+pub fn open(n: u64, f: u64, number: u64, starts: &[u64]) -> ServerAnswer {
+    // SAFETY: numbers are passed by value and may be any; the list's pointer is
+    // aligned and valid for reads of its length, during the whole call; the
+    // function only reads those numbers and keeps no pointer. The record that is
     // handed back is of plain numbers, for which any bits are fine.
-    unsafe { tovridsa_open_server(n, f, number) }
+    unsafe { tovridsa_open_server(n, f, number, start(starts), starts.len()) }
 }
 
 /// Gives a taker weight.

@@ -28,9 +28,9 @@ pub fn draw_damaged(
     pace.steps = random.within(60, 400);
     // With more desks than the program keeps, none would be forged for.
     pace.desks.truncate(4);
-    let (n, f) = (pace.n, pace.f);
+    let house = pace.house.clone();
     let mut player = Player::new(random, pace, store);
-    player.give(Command::level(n, f));
+    player.give(Command::House { house });
     while player.goes_on() {
         if player.random.one_in(2) {
             player.happen();

@@ -1,10 +1,10 @@
 //! A run, drawn from a seed and its number by what a store answers.
 
-use super::pace::Pace;
+use super::pace::{house, Pace};
 use super::player::{Player, Run, ROOMY};
 use super::script::Source;
 use super::store::Store;
-use crate::machine::command::Command;
+use crate::machine::command::{Command, House};
 use crate::machine::desk::Task;
 use crate::machine::program::MOST_DESKS;
 use crate::random::Random;
@@ -18,12 +18,14 @@ pub fn draw(seed: u64, number: u64, store: &mut dyn Store) -> Run {
 
 /// Plays a run of this pace.
 pub fn play(random: Random, pace: Pace, store: &mut dyn Store) -> Run {
-    let (n, f) = (pace.n, pace.f);
+    let first = pace.house.clone();
     let mut player = Player::new(random, pace, store);
     if player.pace.early {
         early(&mut player);
     }
-    player.give(Command::level(n, f));
+    player.give(Command::House {
+        house: first.clone(),
+    });
     if player.pace.desks.len() >= MOST_DESKS {
         for desk in player.pace.desks.clone() {
             player.give(Command::RecordDesk { desk });
@@ -37,7 +39,8 @@ pub fn play(random: Random, pace: Pace, store: &mut dyn Store) -> Run {
         player.aside();
         // Seldom a new cluster takes the place of the old.
         if player.random.one_in(2_000) {
-            player.give(Command::level(n, f));
+            let house = house(&mut player.random, first.n, first.f);
+            player.give(Command::House { house });
         }
     }
     player.finish()
@@ -80,6 +83,9 @@ fn early(player: &mut Player) {
         Command::RecordServer { server },
         Command::RecordDesk { desk },
         Command::level(0, 0),
+        Command::House {
+            house: House::with_starts(2, 0, vec![300, 100]),
+        },
     ];
     for command in commands {
         if player.random.one_in(2) {

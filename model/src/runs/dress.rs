@@ -1,6 +1,6 @@
 //! The same line written in other ways: docs/SCRIPTS.md, "A line". Spaces, tabs,
-//! carriage returns, comments, zeros before a number and the case and spacing
-//! of hex change nothing that a line says.
+//! carriage returns, comments, zeros before a number, alone or in a list, and the
+//! case and spacing of hex change nothing that a line says.
 
 use crate::machine::program::LONGEST_LINE;
 use crate::random::Random;
@@ -25,9 +25,9 @@ pub fn dressed(line: &str, dress: u64) -> String {
         }
         if has_hex && place == last {
             text += &hex_dressed(random, word);
-        } else if word.bytes().all(|byte| byte.is_ascii_digit()) && random.one_in(8) {
-            text += &"0".repeat(random.within(1, 3) as usize);
-            text += word;
+        } else if is_list(word) {
+            let numbers = word.split(',').map(|number| with_zeros(random, number));
+            text += &numbers.collect::<Vec<String>>().join(",");
         } else {
             text += word;
         }
@@ -43,6 +43,23 @@ pub fn dressed(line: &str, dress: u64) -> String {
         return line.to_string();
     }
     text
+}
+
+/// Whether a word is a number, or numbers apart by commas.
+fn is_list(word: &str) -> bool {
+    word.starts_with(|first: char| first.is_ascii_digit())
+        && word
+            .bytes()
+            .all(|byte| byte.is_ascii_digit() || byte == b',')
+}
+
+/// A number, now and then with zeros before it.
+fn with_zeros(random: &mut Random, number: &str) -> String {
+    let zeros = match random.one_in(8) {
+        true => random.within(1, 3) as usize,
+        false => 0,
+    };
+    "0".repeat(zeros) + number
 }
 
 /// At least so many spaces or tabs.
@@ -85,6 +102,9 @@ mod tests {
     fn a_dressed_line_says_the_same() {
         for line in [
             "house 5 1",
+            "house 2 0 starts 299,100",
+            "house 2 0 starts -",
+            "message 1 0 starts 1000 1122",
             "begin 7 read 0",
             "begin 7 write 9 A0FF00",
             "serve 3 0 1111 0023030000010001",

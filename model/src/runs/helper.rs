@@ -5,14 +5,15 @@
 use super::player::{Player, ROOMY};
 use super::script::Source;
 use crate::cases::Case;
-use crate::machine::command::Command;
+use crate::machine::command::{Command, House};
 use crate::machine::parse::parse;
 use crate::machine::program::LONGEST_LINE;
 use crate::machine::server::Room;
 use crate::random::{bad_cluster, block, server_map};
+use crate::starts::unlawful;
 
 /// Lines that cannot be read.
-const UNREADABLE: [&str; 26] = [
+const UNREADABLE: [&str; 36] = [
     "hello",
     "house",
     "house 5",
@@ -20,6 +21,16 @@ const UNREADABLE: [&str; 26] = [
     "house five 1",
     "house 5 -1",
     "house 18446744073709551616 0",
+    "house 2 0 starts",
+    "house 2 0 start 1000,1000",
+    "house 2 0 starts 1000 1000",
+    "house 2 0 starts 1000,",
+    "house 2 0 starts 1000,,1000",
+    "house 2 0 starts 1000,-",
+    "house 2 0 starts 1000,18446744073709551616",
+    "house 2 0 1000,1000",
+    "message 2 0 starts 1000,1000",
+    "message 2 0 0003 starts 1000,1000",
     "begin 1",
     "begin 1 sell 0",
     "begin 1 read",
@@ -42,8 +53,9 @@ const UNREADABLE: [&str; 26] = [
 ];
 
 /// Characters that mean something in a line, or nearly.
-const CHARACTERS: [char; 18] = [
-    ' ', '\t', '\r', '#', '-', '+', '.', '0', '1', '9', 'A', 'a', 'F', 'G', 'x', 's', '~', '\'',
+const CHARACTERS: [char; 19] = [
+    ' ', '\t', '\r', '#', '-', '+', '.', ',', '0', '1', '9', 'A', 'a', 'F', 'G', 'x', 's', '~',
+    '\'',
 ];
 
 /// Lines without a word.
@@ -62,13 +74,28 @@ impl Player<'_> {
                 self.give(Command::Text(line.to_string()));
             }
             2 => self.past_bounds(),
-            3 => {
-                let (n, f) = bad_cluster(&mut self.random);
-                self.give(Command::level(n, f));
-            }
+            3 => self.bad_house(),
             4 => self.show(),
             _ => self.of_message(),
         }
+    }
+
+    /// A house that is refused: by its numbers, whatever the list, or by its list.
+    fn bad_house(&mut self) {
+        let (n, f) = bad_cluster(&mut self.random);
+        let house = match self.random.below(6) {
+            0..=1 => House::level(n, f),
+            2 => House::with_starts(n, f, self.known.config.starts()),
+            _ => self.with_bad_list(),
+        };
+        self.give(Command::House { house });
+    }
+
+    /// The cluster that stands, with a list that is not lawful.
+    fn with_bad_list(&mut self) -> House {
+        let config = self.known.config;
+        let (n, f) = (config.n() as u64, config.f() as u64);
+        House::with_starts(n, f, unlawful(&mut self.random, n, f))
     }
 
     /// The calls that take a message alone, on one that was sent or on any.
@@ -97,8 +124,12 @@ impl Player<'_> {
             },
             5 => Command::Value { bytes },
             _ => {
-                let (n, f) = (case.n, case.f);
-                Command::Message { n, f, bytes }
+                let house = match self.random.below(4) {
+                    0 => House::level(case.n, case.f),
+                    1 => self.with_bad_list(),
+                    _ => House::with_starts(case.n, case.f, case.starts),
+                };
+                Command::Message { house, bytes }
             }
         };
         self.give(command);

@@ -8,7 +8,7 @@ use super::script::Turn;
 use super::seen::{shown, Mode};
 use crate::format::{read, Kind};
 use crate::machine::command::Command;
-use crate::weights::{Config, START};
+use crate::weights::Config;
 
 /// A message, named by the line that sent it.
 #[derive(Clone, Debug)]
@@ -57,7 +57,7 @@ impl Known {
             config,
             desks: BTreeMap::new(),
             crashed: vec![false; config.n()],
-            weights: vec![START; config.n()],
+            weights: config.start_weights()[..config.n()].to_vec(),
             flying: Vec::new(),
             sent: Vec::new(),
         }

@@ -12,7 +12,8 @@ use super::seen::{margin, refused, shown, told, Shown};
 use crate::format::read;
 use crate::machine::command::Command;
 use crate::machine::desk::Task;
-use crate::weights::{Config, START};
+use crate::place::Place;
+use crate::weights::Config;
 
 /// What is asked of a run, by demand 3 and beside it.
 #[derive(Clone, Copy, Debug, PartialEq, Eq, PartialOrd, Ord, Hash)]
@@ -79,12 +80,13 @@ impl Observer {
 
     fn breaches(&mut self, turn: &Turn) -> Vec<Breach> {
         let answer = turn.answer();
-        if let Command::House { n, f } = turn.command {
+        if let Command::House { house } = &turn.command {
             if answer == "ok" {
                 let before = self.operations.values();
-                self.config = Config::new(n, f).ok();
+                let config = house.config();
+                self.config = config.ok();
                 self.operations = Operations::default();
-                return before.into_iter().collect();
+                return before.into_iter().chain(opened(config)).collect();
             }
         }
         let Some(config) = self.config else {
@@ -141,6 +143,13 @@ impl Observer {
     }
 }
 
+/// The clause of sheets, on the fresh one of a house that was opened.
+fn opened(config: Result<Config, Place>) -> Option<Breach> {
+    let place = config.err()?;
+    let words = format!("a house was opened: {}", place.words());
+    Some((Clause::Sheets, words))
+}
+
 /// Above 0 the phase would have ended; and no weight is below 0, so that the
 /// least is that of nobody.
 fn goes_on(config: Config, desk: u64, margin: i64) -> Option<Breach> {
@@ -153,9 +162,9 @@ fn goes_on(config: Config, desk: u64, margin: i64) -> Option<Breach> {
 
 /// The clause of sheets, on a record.
 fn sound(config: Config, shown: &Shown) -> Option<Breach> {
-    let weights = shown.ledger.weights();
-    if shown.weights != weights[..config.n()] {
-        let words = "a record's weights are not those of its cells".to_string();
+    let weights = shown.ledger.weights(config);
+    if shown.starts != config.starts() || shown.weights != weights[..config.n()] {
+        let words = "a record's weights are not those of its house and cells".to_string();
         return Some((Clause::Sheets, words));
     }
     sound_weights(config, &shown.weights)
@@ -164,7 +173,7 @@ fn sound(config: Config, shown: &Shown) -> Option<Breach> {
 /// The same on a message.
 fn sound_message(config: Config, bytes: &[u8]) -> Option<Breach> {
     match read(config, bytes) {
-        Ok(message) => sound_weights(config, &message.ledger.weights()[..config.n()]),
+        Ok(message) => sound_weights(config, &message.ledger.weights(config)[..config.n()]),
         Err(fault) => {
             let words = format!(
                 "a message that was sent is refused: {}",
@@ -182,8 +191,7 @@ fn sound_weights(config: Config, weights: &[i64]) -> Option<Breach> {
     let mut sorted = weights.to_vec();
     sorted.sort_unstable();
     let lightest: i64 = sorted[..config.n() - config.f()].iter().sum();
-    let total_right = total == START * config.n() as i64;
-    if total_right && !light && 2 * lightest > config.total() {
+    if total == config.total() && !light && 2 * lightest > config.total() {
         return None;
     }
     let words = format!("a sheet has the weights {weights:?}");

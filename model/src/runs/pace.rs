@@ -1,7 +1,11 @@
 //! What is fixed for a whole run: the cluster, the desks, and how often what
-//! happens. Each run is of one pace; all 72 pairs of n and f come in turn.
+//! happens. Each run is of one pace; all 72 pairs of n and f come in turn, with
+//! servers that start level or not.
 
+use crate::machine::command::House;
 use crate::random::Random;
+use crate::starts::uneven;
+use crate::weights::level;
 
 /// All pairs (n, f) with 1 ≤ n ≤ 16 and 2f < n.
 pub fn pairs() -> Vec<(u64, u64)> {
@@ -12,8 +16,8 @@ pub fn pairs() -> Vec<(u64, u64)> {
 /// How a run goes. Rates are out of 1,000 choices of what to do next.
 #[derive(Clone, Debug)]
 pub struct Pace {
-    pub n: u64,
-    pub f: u64,
+    /// A lawful one.
+    pub house: House,
     /// Steps of the store after which the run stops.
     pub steps: u64,
     pub desks: Vec<u64>,
@@ -60,8 +64,7 @@ impl Pace {
             _ => random.within(150, 600),
         };
         Pace {
-            n,
-            f,
+            house: house(random, n, f),
             steps,
             desks: desks(random),
             at_once: *random.pick(&[2, 4, 17]),
@@ -103,8 +106,7 @@ impl Pace {
             _ => (1..=16).collect(),
         };
         Pace {
-            n,
-            f,
+            house: house(random, n, f),
             steps: random.within(60, 400),
             desks,
             at_once: 2,
@@ -125,6 +127,15 @@ impl Pace {
             dressed: false,
             early: false,
         }
+    }
+}
+
+/// The cluster of these numbers: level, without a list or with one, or uneven.
+pub fn house(random: &mut Random, n: u64, f: u64) -> House {
+    match random.below(8) {
+        0..=2 => House::level(n, f),
+        3 => House::with_starts(n, f, level(n)),
+        _ => House::with_starts(n, f, uneven(random, n, f)),
     }
 }
 

@@ -7,7 +7,7 @@ use super::pace::Pace;
 use super::script::{replay, with_records, Entry, Source, Stage, Turn};
 use super::seen::refused;
 use super::store::Store;
-use crate::machine::command::Command;
+use crate::machine::command::{Command, House};
 use crate::machine::server::Room;
 use crate::random::Random;
 use crate::weights::Config;
@@ -54,7 +54,7 @@ pub struct Player<'a> {
 
 impl<'a> Player<'a> {
     pub fn new(random: Random, pace: Pace, store: &'a mut dyn Store) -> Player<'a> {
-        let config = Config::level(pace.n, pace.f);
+        let config = pace.house.config().expect("the house is lawful");
         Player {
             asides: Asides::of_run(&random),
             random,
@@ -112,9 +112,8 @@ impl<'a> Player<'a> {
         let Some(turn) = self.stage.play(&entry) else {
             return (String::new(), None);
         };
-        if let (Command::House { n, f }, "ok") = (&turn.command, turn.answer()) {
-            let config = Config::new(*n, *f).expect("it was accepted");
-            self.known = Known::new(config);
+        if let (Command::House { house }, "ok") = (&turn.command, turn.answer()) {
+            self.known = Known::new(taken(house));
         }
         let post = self.known.see(&turn);
         self.steps += u64::from(turn.is_step());
@@ -193,6 +192,13 @@ impl<'a> Player<'a> {
             _ => ROOMY,
         }
     }
+}
+
+/// The cluster of a house that was accepted, also by a store that gets the test
+/// of its list wrong.
+fn taken(house: &House) -> Config {
+    let untested = |_| Config::untested(house.n as usize, house.f as usize, &house.starts());
+    house.config().unwrap_or_else(untested)
 }
 
 /// How a line is written: plainly, or now and then in another way.

@@ -47,6 +47,7 @@ pub fn margin(answer: &str) -> Option<i64> {
 /// A record's line: what server and desk have in common.
 #[derive(Clone, Debug, PartialEq, Eq)]
 pub struct Shown {
+    pub starts: Vec<u64>,
     pub tag: Tag,
     pub value: Vec<u8>,
     pub weights: Vec<i64>,
@@ -89,6 +90,9 @@ pub fn shown(answer: &str) -> Option<Shown> {
     let n: usize = words.next()?.parse().ok()?;
     expect(&mut words, "f")?;
     words.next()?;
+    expect(&mut words, "starts")?;
+    let starts = words.next()?.split(',').map(|word| word.parse().ok());
+    let starts = starts.collect::<Option<Vec<u64>>>()?;
     expect(&mut words, "tag")?;
     let held = tag(&mut words)?;
     expect(&mut words, "value")?;
@@ -119,6 +123,7 @@ pub fn shown(answer: &str) -> Option<Shown> {
         _ => return None,
     };
     Some(Shown {
+        starts,
         tag: held,
         value,
         weights,
@@ -203,15 +208,17 @@ mod tests {
 
     #[test]
     fn the_lines_of_the_page() {
-        let server = "server 0 n 5 f 1 tag 0 0 value - weights 800 1000 1200 1000 1000 \
-                      counts 1 0 0 0 0 cells 0>2:200";
+        let server = "server 0 n 5 f 1 starts 1000,1000,1000,1000,1000 tag 0 0 value - \
+                      weights 800 1000 1200 1000 1000 counts 1 0 0 0 0 cells 0>2:200";
         let seen = shown(server).unwrap();
+        assert_eq!(seen.starts, [1_000; 5]);
         assert_eq!(seen.weights, [800, 1_000, 1_200, 1_000, 1_000]);
         assert_eq!(seen.ledger.cells[0][2], 200);
         assert_eq!(seen.ledger.counts[0], 1);
-        let desk = "desk 7 n 5 f 1 tag 1 7 value A0 weights 1000 1000 1000 1000 1000 \
-                    counts 0 0 0 0 0 cells - round 2 operation running write phase 2 note 0 \
-                    restarts 0 answered 0,3 writing A0 chosen 1 7 A0";
+        let desk = "desk 7 n 5 f 1 starts 2200,700,700,700,700 tag 1 7 value A0 \
+                    weights 2200 700 700 700 700 counts 0 0 0 0 0 cells - round 2 \
+                    operation running write phase 2 note 0 restarts 0 answered 0,3 \
+                    writing A0 chosen 1 7 A0";
         let seen = shown(desk).unwrap().desk.unwrap();
         assert_eq!((seen.mode, seen.phase, seen.round), (Mode::Running, 2, 2));
         assert_eq!(seen.answered, [0, 3]);

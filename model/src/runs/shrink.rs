@@ -4,7 +4,7 @@
 
 use super::player::ROOMY;
 use super::script::{Entry, Turn};
-use crate::machine::command::Command;
+use crate::machine::command::{Command, House};
 use crate::machine::desk::Task;
 
 /// The shortest script found for which the test still holds.
@@ -92,18 +92,23 @@ fn make_plain(script: &mut [Entry], fails: &mut dyn FnMut(&[Entry]) -> bool) {
 const CHANGES: &[fn(&mut Entry)] = &[
     |entry| entry.dress = 0,
     |entry| {
-        if let Command::House { n, f } = &mut entry.command {
-            (*n, *f) = (*n / 2, *f / 2);
+        if let Command::House { house } = &mut entry.command {
+            house.starts = None;
         }
     },
     |entry| {
-        if let Command::House { n, .. } = &mut entry.command {
-            *n = n.saturating_sub(1);
+        if let Command::House { house } = &mut entry.command {
+            *house = fewer(house, house.n - house.n / 2, house.f - house.f / 2);
         }
     },
     |entry| {
-        if let Command::House { f, .. } = &mut entry.command {
-            *f = f.saturating_sub(1);
+        if let Command::House { house } = &mut entry.command {
+            *house = fewer(house, 1, 0);
+        }
+    },
+    |entry| {
+        if let Command::House { house } = &mut entry.command {
+            *house = fewer(house, 0, 1);
         }
     },
     |entry| {
@@ -134,6 +139,20 @@ const CHANGES: &[fn(&mut Entry)] = &[
         }
     },
 ];
+
+/// A house without so many of its servers and crashes, the last ones.
+fn fewer(house: &House, servers: u64, crashes: u64) -> House {
+    let n = house.n.saturating_sub(servers);
+    let mut starts = house.starts.clone();
+    if let Some(starts) = &mut starts {
+        starts.truncate(n.try_into().unwrap_or(usize::MAX));
+    }
+    House {
+        n,
+        f: house.f.saturating_sub(crashes),
+        starts,
+    }
+}
 
 /// A script for a reader: each line, and the answer to it as a comment, up to
 /// the line that shows what was found, with that in front.

@@ -9,7 +9,7 @@ use super::script::Turn;
 use super::seen::{margin, refused, shown, told, Mode};
 use crate::answers::refusal;
 use crate::format::{read, Kind};
-use crate::machine::command::Command;
+use crate::machine::command::{Command, House};
 use crate::machine::desk::Task;
 use crate::weights::Config;
 
@@ -81,12 +81,12 @@ impl Tally {
             "crashed" => return self.reach("line: crashed"),
             _ => {}
         }
-        if let Command::House { n, f } = turn.command {
+        if let Command::House { house } = &turn.command {
             if answer == "ok" {
                 self.reach_if(self.config.is_some(), "house: another after the first");
-                self.open(n, f);
+                self.open(house);
             } else {
-                self.reach("house: refused");
+                self.reach(format!("house: {answer}"));
             }
             return;
         }
@@ -117,6 +117,11 @@ impl Tally {
         let line = turn.command.line(|message| &message.bytes);
         let call = line.split(' ').next().unwrap_or_default();
         self.reach(format!("{call}: {end}"));
+        let is_message = matches!(turn.command, Command::Message { .. });
+        self.reach_if(
+            is_message && turn.answer() == "no 15",
+            "message: refused by its list",
+        );
         if let (Command::Quorum { .. }, Some(margin), false) = (&turn.command, number, is_refused) {
             self.reach(match margin.signum() {
                 1 => "quorum: above 0",
@@ -126,9 +131,17 @@ impl Tally {
         }
     }
 
-    fn open(&mut self, n: u64, f: u64) {
-        self.pairs.insert((n, f));
-        self.config = Config::new(n, f).ok();
+    fn open(&mut self, house: &House) {
+        self.pairs.insert((house.n, house.f));
+        self.config = house.config().ok();
+        if let Some(config) = self.config {
+            self.reach(match (config.is_level(), &house.starts) {
+                (true, None) => "house: level, without a list",
+                (true, Some(_)) => "house: level, with a list",
+                (false, _) => "house: uneven",
+            });
+            self.reach_if(config.total() == 16_000, "house: W is 16,000");
+        }
         self.close();
         self.desks.clear();
         self.crashed.clear();
@@ -246,11 +259,16 @@ impl Tally {
             return;
         };
         let edge = |rest: i64| config.above_floor(rest) && !config.above_floor(rest - 1);
-        if no.is_none() && edge(weight - amount) {
-            self.reach("transfer: accepted, all that can be spared");
-        }
-        if no == Some(10) && amount < weight && edge(weight - amount + 1) {
-            self.reach("transfer: no 10, one more than can be spared");
+        let words = if no.is_none() && edge(weight - amount) {
+            "transfer: accepted, all that can be spared"
+        } else if no == Some(10) && amount < weight && edge(weight - amount + 1) {
+            "transfer: no 10, one more than can be spared"
+        } else {
+            return;
+        };
+        self.reach(words);
+        if !config.is_level() {
+            self.reach(format!("{words}, in an uneven house"));
         }
     }
 

@@ -4,7 +4,7 @@
 use super::player::Player;
 use crate::machine::command::Command;
 use crate::machine::desk::Task;
-use crate::weights::{MOST, START};
+use crate::weights::MOST;
 
 impl Player<'_> {
     /// A desk fetches its result, begins, or asks.
@@ -65,7 +65,9 @@ impl Player<'_> {
         if self.random.one_in(2) {
             let heavy = !self.random.one_in(3);
             let weights = &self.known.weights;
-            let fits = |server: &u64| (weights[*server as usize] > START) == heavy;
+            let starts = self.known.config.start_weights();
+            let heavier = |server: usize| weights[server] > starts[server];
+            let fits = |server: &u64| heavier(*server as usize) == heavy;
             return all.into_iter().filter(fits).collect();
         }
         let map = self.random.word();

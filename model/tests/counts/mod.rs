@@ -7,18 +7,22 @@ use std::collections::BTreeMap;
 use model::answers::{open, refusal};
 use model::calls::Answers;
 use model::cases::Case;
-use model::format::{Kind, Message, MOST_PER_TRANSFER};
+use model::format::{read, Kind, Message, MOST_PER_TRANSFER};
 use model::place::Place;
 use model::weights::Config;
 
 /// What a case may reach, besides the places of refusal in a message.
-const WORDS: [&str; 24] = [
+const WORDS: [&str; 31] = [
     "number 1",
     "number 2",
     "number 3",
     "number 4",
     "number 5",
     "number 14",
+    "number 15",
+    "15 for a list beside a message that would be refused",
+    "15 for a list beside a server or map out of bounds",
+    "1 for the house beside a list that is not lawful",
     "1 for the house: n is 0",
     "1 for the house: n is over 16",
     "1 for the house: 2f is n or more",
@@ -28,6 +32,9 @@ const WORDS: [&str; 24] = [
     "accepted reply",
     "accepted share",
     "accepted message of 1,111 bytes",
+    "accepted where servers start level",
+    "accepted where they do not",
+    "accepted where W is 16,000",
     "quorum above 0",
     "quorum 0",
     "quorum below 0",
@@ -35,8 +42,8 @@ const WORDS: [&str; 24] = [
     "edge: a row's total is its count",
     "edge: a row's total is 16,000 times its count",
     "edge: with one less a weight would be light",
-    "edge: a map of one less than half of the weight",
-    "edge: a map of one more than half of the weight",
+    "edge: a map just below half of the weight",
+    "edge: a map just above half of the weight",
 ];
 
 pub struct Counts {
@@ -61,8 +68,9 @@ impl Counts {
         self.reach_if(refused(4), "number 4");
         self.reach_if(refused(5), "number 5");
         self.reach_if(refused(14), "number 14");
+        self.reach_if(refused(15), "number 15");
         self.reach_if(answers[3] >= 0, "seats");
-        match open(case.n, case.f, &case.message) {
+        match open(case.n, case.f, &case.starts, &case.message) {
             Ok((config, message)) => {
                 self.add_accepted(case, config, &message, answers);
                 self.add_edges(config, &message, answers);
@@ -75,9 +83,29 @@ impl Counts {
                         1..=16 => "1 for the house: 2f is n or more",
                         _ => "1 for the house: n is over 16",
                     });
+                    self.reach_if(
+                        case.starts.len() as u64 != case.n,
+                        "1 for the house beside a list that is not lawful",
+                    );
+                }
+                if fault.number == 15 {
+                    self.add_bad_list(case);
                 }
             }
         }
+    }
+
+    /// What else there is to refuse where the list is not lawful.
+    fn add_bad_list(&mut self, case: &Case) {
+        let config = Config::level(case.n, case.f);
+        self.reach_if(
+            read(config, &case.message).is_err(),
+            "15 for a list beside a message that would be refused",
+        );
+        self.reach_if(
+            case.server >= case.n || !config.names_servers(case.map),
+            "15 for a list beside a server or map out of bounds",
+        );
     }
 
     fn add_accepted(&mut self, case: &Case, config: Config, message: &Message, answers: &Answers) {
@@ -91,6 +119,11 @@ impl Counts {
             case.message.len() == 1_111,
             "accepted message of 1,111 bytes",
         );
+        self.reach(match config.is_level() {
+            true => "accepted where servers start level",
+            false => "accepted where they do not",
+        });
+        self.reach_if(config.total() == 16_000, "accepted where W is 16,000");
         self.reach_if(weight == refusal(1), "1 for a server");
         self.reach_if(quorum == refusal(1), "1 for a map");
         self.reach_if(quorum > 0, "quorum above 0");
@@ -116,20 +149,21 @@ impl Counts {
                 .any(|(count, total)| total == MOST_PER_TRANSFER * count),
             "edge: a row's total is 16,000 times its count",
         );
-        let weights = ledger.weights();
+        let weights = ledger.weights(config);
         self.reach_if(
             weights[..config.n()]
                 .iter()
                 .any(|&weight| !config.above_floor(weight - 1)),
             "edge: with one less a weight would be light",
         );
+        // A margin is even where W is.
         self.reach_if(
-            quorum == -2,
-            "edge: a map of one less than half of the weight",
+            (-2..0).contains(&quorum),
+            "edge: a map just below half of the weight",
         );
         self.reach_if(
-            quorum == 2,
-            "edge: a map of one more than half of the weight",
+            (1..=2).contains(&quorum),
+            "edge: a map just above half of the weight",
         );
     }
 

@@ -1,9 +1,9 @@
-//! The number 1: lines before a house, houses out of bounds, and numbers that no
-//! desk has.
+//! The numbers 1 and 15: lines before a house, houses out of bounds and with
+//! lists that are not lawful, and numbers that no desk has.
 
 use super::one::One;
-use crate::conformance::line::{reply, Line, BAD_HOUSES};
-use crate::machine::command::Command;
+use crate::conformance::line::{bad_lists, reply, Line, BAD_HOUSES};
+use crate::machine::command::{Command, House};
 use crate::machine::desk::Task;
 use crate::runs::player::ROOMY;
 use crate::write::write;
@@ -38,6 +38,9 @@ fn calls(desk: u64) -> [Line; 8] {
 pub fn before_a_house() -> Vec<Line> {
     let mut lines: Vec<Line> = calls(7).into();
     lines.push(Command::level(5, 3));
+    lines.push(Command::House {
+        house: House::with_starts(2, 0, vec![300, 100]),
+    });
     lines.extend(calls(7));
     lines.extend(calls(0));
     lines
@@ -50,6 +53,14 @@ pub fn houses() -> Vec<Line> {
     one.record();
     for (n, f) in BAD_HOUSES {
         one.lines.push(Command::level(n, f));
+    }
+    for house in bad_lists() {
+        one.lines.push(Command::House { house });
+    }
+    // 1 comes before 15.
+    for (n, f) in [(0, 0), (17, 3), (5, 3)] {
+        let house = House::with_starts(n, f, vec![300, 100]);
+        one.lines.push(Command::House { house });
     }
     one.record();
     one.ask(0);

@@ -1,7 +1,8 @@
 //! What one desk answers: to numbers out of bounds (`bounds`), to begin, ask,
 //! result and drop (`calls`), to replies (`replies`, `sheets`, `kept`), at the end of a
-//! phase (`phases`, `stamps`), on an ordinary day, and, for every number of
-//! servers, among messages that were forged.
+//! phase (`phases`, `stamps`), where servers do not start level (`starts`), on an
+//! ordinary day, and, for every number of servers, among messages that were
+//! forged.
 
 pub mod bounds;
 pub mod calls;
@@ -11,6 +12,7 @@ pub mod phases;
 pub mod replies;
 pub mod sheets;
 pub mod stamps;
+pub mod starts;
 
 use super::drawn::{among_forged, desks, ordinary_day};
 use super::line::Line;
@@ -55,6 +57,10 @@ pub fn lines() -> Vec<Line> {
     lines.extend(phases::levels());
     lines.extend(phases::halves());
     lines.extend(phases::higher());
+    lines.extend(starts::operations());
+    lines.extend(starts::strong());
+    lines.extend(starts::halves());
+    lines.extend(starts::light());
     lines.extend(stamps::alone());
     lines.extend(stamps::of_three());
     for (place, pair) in pairs()

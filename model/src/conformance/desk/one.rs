@@ -2,7 +2,7 @@
 
 use crate::conformance::line::{reply, Line};
 use crate::format::Message;
-use crate::machine::command::Command;
+use crate::machine::command::{Command, House};
 use crate::machine::desk::Task;
 use crate::machine::server::Room;
 use crate::runs::player::ROOMY;
@@ -15,11 +15,17 @@ pub struct One {
 }
 
 impl One {
-    /// A fresh cluster, with this desk.
+    /// A fresh level cluster, with this desk.
     pub fn new(n: u64, f: u64, desk: u16) -> One {
+        One::of(House::level(n, f), desk)
+    }
+
+    /// The same, where the servers need not start level.
+    pub fn of(house: impl Into<House>, desk: u16) -> One {
+        let house = house.into();
         One {
             desk,
-            lines: vec![Command::level(n, f)],
+            lines: vec![Command::House { house }],
         }
     }
 

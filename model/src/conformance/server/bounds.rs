@@ -1,10 +1,10 @@
-//! The number 1: lines before a house, houses out of bounds, and servers that
-//! there are not.
+//! The numbers 1 and 15: lines before a house, houses out of bounds and with
+//! lists that are not lawful, and servers that there are not.
 
 use super::one::One;
-use crate::conformance::line::{register, request, share, Line, BAD_HOUSES};
+use crate::conformance::line::{bad_lists, register, request, share, Line, BAD_HOUSES};
 use crate::format::Message;
-use crate::machine::command::Command;
+use crate::machine::command::{Command, House};
 use crate::runs::player::ROOMY;
 use crate::write::write;
 
@@ -36,6 +36,9 @@ pub fn before_a_house() -> Vec<Line> {
         lines.extend(calls(server, &share(0)));
     }
     lines.push(Command::level(5, 3));
+    lines.push(Command::House {
+        house: House::with_starts(2, 0, vec![300, 100]),
+    });
     lines.extend(calls(0, &request(0, 1, 1)));
     lines
 }
@@ -51,6 +54,14 @@ pub fn houses() -> Vec<Line> {
     one.record();
     for (n, f) in BAD_HOUSES {
         one.lines.push(Command::level(n, f));
+    }
+    for house in bad_lists() {
+        one.lines.push(Command::House { house });
+    }
+    // 1 comes before 15.
+    for (n, f) in [(0, 0), (17, 3), (5, 3)] {
+        let house = House::with_starts(n, f, vec![300, 100]);
+        one.lines.push(Command::House { house });
     }
     one.record();
     one.transfer(0, 1);

@@ -2,7 +2,7 @@
 
 use crate::conformance::line::Line;
 use crate::format::Message;
-use crate::machine::command::Command;
+use crate::machine::command::{Command, House};
 use crate::machine::server::Room;
 use crate::runs::player::ROOMY;
 use crate::write::write;
@@ -14,11 +14,17 @@ pub struct One {
 }
 
 impl One {
-    /// A fresh cluster, of which this server is meant.
+    /// A fresh level cluster, of which this server is meant.
     pub fn new(n: u64, f: u64, server: u64) -> One {
+        One::of(House::level(n, f), server)
+    }
+
+    /// The same, where the servers need not start level.
+    pub fn of(house: impl Into<House>, server: u64) -> One {
+        let house = house.into();
         One {
             server,
-            lines: vec![Command::level(n, f)],
+            lines: vec![Command::House { house }],
         }
     }
 

@@ -40,8 +40,15 @@ pub fn register(record: &records::Register) -> Option<Register> {
     })
 }
 
+/// The start weights from n on are 0.
 fn config(record: &records::Config) -> Option<Config> {
-    Config::new(record.n, record.f).ok()
+    let n = record.n.try_into().ok()?;
+    let (starts, after) = record.starts.split_at_checked(n)?;
+    let starts: Vec<u64> = starts.iter().map(|&start| start.into()).collect();
+    let alone = after.iter().all(|start| *start == 0);
+    Config::new(record.n, record.f, &starts)
+        .ok()
+        .filter(|_| alone)
 }
 
 /// The line of a record has no count of a server of n or more.

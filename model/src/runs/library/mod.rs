@@ -17,7 +17,7 @@ use super::script::Turn;
 use super::store::Store;
 use crate::answers::refusal;
 use crate::calls::PROVED;
-use crate::machine::command::Command;
+use crate::machine::command::{Command, House};
 use crate::machine::desk::{Outcome, Task};
 use crate::machine::number::No;
 use crate::machine::program::{answer, of_message, Answer, Step, MOST_DESKS};
@@ -66,8 +66,8 @@ pub fn answered(expected: &[Turn]) -> Vec<Turn> {
 impl Library {
     fn obey(&mut self, command: &Command<Handed>) -> Step<Answer> {
         match command {
-            &Command::House { n, f } => {
-                self.cluster = Some(Cluster::open(n, f)?);
+            Command::House { house } => {
+                self.cluster = Some(Cluster::open(house)?);
                 Ok(Answer::Done)
             }
             Command::Begin { desk, task, note } => {
@@ -181,7 +181,8 @@ impl Library {
     fn desk(&mut self, number: u64) -> Step<&mut Desk> {
         let Cluster { config, desks, .. } = self.cluster()?;
         if !desks.contains_key(&number) {
-            let opened = desks::open(config.n() as u64, config.f() as u64, number);
+            let (n, f) = (config.n() as u64, config.f() as u64);
+            let opened = desks::open(n, f, number, &config.starts());
             let desk = opened_record(opened.answer, opened.desk, Desk::NONE)?;
             if desks.len() == MOST_DESKS {
                 return Err(Answer::Bounds);
@@ -193,15 +194,23 @@ impl Library {
 }
 
 impl Cluster {
-    fn open(n: u64, f: u64) -> Step<Cluster> {
+    fn open(house: &House) -> Step<Cluster> {
+        let (n, f, starts) = (house.n, house.f, house.starts());
         let open_server = |number| {
-            let opened = servers::open(n, f, number);
+            let opened = servers::open(n, f, number, &starts);
             opened_record(opened.answer, opened.server, Server::NONE)
         };
-        // The library says which numbers are out of bounds.
-        open_server(0)?;
+        // The library says which numbers and lists are out of bounds, and of a
+        // desk the same as of a server.
+        let opened = desks::open(n, f, 1, &starts);
+        let desk = opened_record(opened.answer, opened.desk, Desk::NONE);
+        let server = open_server(0);
+        if server.is_ok() != desk.is_ok() {
+            return Err(wrong((server, desk)));
+        }
+        server?;
         Ok(Cluster {
-            config: Config::new(n, f).map_err(|_| wrong("it is out of bounds"))?,
+            config: house.config().map_err(|_| wrong("it is out of bounds"))?,
             servers: (0..n).map(open_server).collect::<Step<_>>()?,
             crashed: vec![false; n as usize],
             desks: BTreeMap::new(),
@@ -289,7 +298,7 @@ fn margin(answer: i64) -> Step<Answer> {
 
 /// The refusal that an answer is, if it is one.
 fn refused(answer: i64) -> Option<No> {
-    let number = (1..=14).find(|number| answer == refusal(*number));
+    let number = (1..=15).find(|number| answer == refusal(*number));
     number.map(No)
 }
 

@@ -171,7 +171,7 @@ impl Calls<Transfers> for CountedTwice {
             if *round != desk.round || operation.answered == 0 {
                 (*round, *weight) = (desk.round, 0);
             }
-            *weight += desk.pair.sheet.weights()[usize::from(letter.server)];
+            *weight += desk.pair.sheet.weight(config, letter.server.into());
             operation.answered |= 1 << letter.server;
             desk.marked(operation, letter, 2 * *weight > config.total())
         })
