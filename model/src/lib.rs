@@ -5,7 +5,7 @@
 //! Messages, weights and seats: the first group of modules is the model, the
 //! second the library, with the same four signatures and with all that a C host
 //! calls on servers and desks, the third draws the cases on which the four must
-//! agree and asks both.
+//! agree and asks both, and has message checkers that misread the papers.
 //!
 //! Servers and desks, in two folders:
 //! - `machine`: the plain machine of "The runs of demand 3" over sets of
@@ -41,6 +41,7 @@ pub mod calls;
 pub mod cases;
 pub mod damage;
 pub mod lawful;
+pub mod misread;
 pub mod patch;
 pub mod random;
 pub mod starts;

@@ -1,14 +1,18 @@
-//! Wrong stores, executed: paper 01, "Wrong stores that come close". The same
-//! generator and the same checks as for the compiled program. Each wrong store
-//! is caught, by every clause that is listed for it; the plain machine
-//! passes. `cargo test --release --test wrong -- --nocapture` shows the table.
+//! Wrong stores, executed: paper 01, "Wrong stores that come close", and such as
+//! misread paper 02. The same generator and the same checks as for the compiled
+//! program. Each wrong store is caught, by every clause that is listed for it;
+//! the plain machine passes. And wrong message checkers, by the cases of the
+//! comparison. `cargo test --release --test wrong -- --nocapture` shows the table.
 
 mod common;
 
 use common::{seed, variable};
+use model::calls::MODEL;
+use model::cases::Case;
 use model::machine::calls::Right;
 use model::machine::program::Program;
 use model::machine::transfers::Transfers;
+use model::misread::MISREAD;
 use model::runs::check::{broken, sees_all, unequal, Clause};
 use model::runs::drawn::draw;
 use model::runs::observer::Found;
@@ -22,6 +26,9 @@ const RUNS: u64 = 6_000;
 
 /// A script that is longer when shrunk is no help to a reader.
 const SHORT: usize = 100;
+
+/// Cases of the comparison after which a wrong checker counts as not caught.
+const CASES: u64 = 100_000;
 
 type Machine = Program<Transfers, Right>;
 
@@ -60,6 +67,21 @@ fn each_wrong_store_is_caught() {
         }
         let others = others(seed, wrong);
         println!("    caught in the first 200 runs by: {}", others.join(", "));
+    }
+}
+
+#[test]
+fn each_wrong_checker_is_caught() {
+    let seed = seed();
+    println!("seed {seed}");
+    for (words, calls) in MISREAD {
+        let differs = |number: &u64| {
+            let case = Case::draw(seed, *number);
+            calls.answers(&case) != MODEL.answers(&case)
+        };
+        let first = (0..CASES).find(differs);
+        let first = first.unwrap_or_else(|| panic!("{CASES} cases do not show: {words}"));
+        println!("{words}: case {first}");
     }
 }
 

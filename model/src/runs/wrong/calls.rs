@@ -2,12 +2,15 @@
 
 use crate::format::Kind;
 use crate::machine::calls::{Calls, Cluster};
+use crate::machine::command::House;
 use crate::machine::desk::{Heard, Outcome, Task};
 use crate::machine::letter::Letter;
 use crate::machine::number::No;
 use crate::machine::server::Room;
 use crate::machine::sheet::Sheet;
 use crate::machine::transfers::Transfers;
+use crate::misread::{AtFloor, Opens};
+use crate::weights::Config;
 
 /// A share's sheet is joined and its register is not. Requests are joined
 /// whole: otherwise no write would reach a server.
@@ -126,5 +129,43 @@ impl Calls<Transfers> for NoRestarts {
             restarts: 0,
             ..outcome
         })
+    }
+}
+
+/// A house is opened also where a start weight is exactly at the floor.
+pub struct OpensAtFloor;
+
+impl Calls<Transfers> for OpensAtFloor {
+    fn open(&self, house: &House) -> Result<Config, No> {
+        let opened = AtFloor::open(house.n, house.f, &house.starts());
+        opened.map_err(|place| No(place.number()))
+    }
+}
+
+/// The floor of a transfer is that of servers that start level.
+pub struct LevelFloor;
+
+impl Calls<Transfers> for LevelFloor {
+    fn transfer(
+        &self,
+        cluster: &mut Cluster<Transfers>,
+        giver: usize,
+        taker: u64,
+        amount: u64,
+    ) -> Result<(), No> {
+        let config = cluster.config;
+        let server = &mut cluster.servers[giver];
+        let sheet = &server.pair.sheet;
+        match server.may_transfer(config, sheet, taker, amount) {
+            Ok(()) | Err(No::THIN) => {}
+            refused => return refused,
+        }
+        let rest = i128::from(sheet.weight(config, giver)) - i128::from(amount);
+        let level = Config::level(config.n() as u64, config.f() as u64);
+        if rest <= 0 || !level.above_floor(rest as i64) {
+            return Err(No::THIN);
+        }
+        server.pair.sheet.add(giver, taker as usize, amount as u32);
+        Ok(())
     }
 }

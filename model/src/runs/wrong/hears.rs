@@ -11,7 +11,7 @@ use crate::machine::number::No;
 use crate::machine::register::{Register, Tag};
 use crate::machine::sheet::Sheet;
 use crate::machine::transfers::Transfers;
-use crate::weights::Config;
+use crate::weights::{Config, START};
 
 /// A desk of the plain machine.
 type PlainDesk = Desk<Transfers>;
@@ -140,6 +140,15 @@ pub const HALF: Marking = Marking(|desk, config, mut operation, letter| {
     operation.answered |= 1 << letter.server;
     let margin = desk.pair.sheet.margin(config, operation.answered);
     desk.marked(operation, letter, margin >= 0)
+});
+
+/// More than half of 1,000 for each server is a quorum, whatever they started
+/// with.
+pub const LEVEL_QUORUM: Marking = Marking(|desk, config, mut operation, letter| {
+    operation.answered |= 1 << letter.server;
+    let twice = desk.pair.sheet.margin(config, operation.answered) + config.total();
+    let quorum = twice > i64::from(START) * config.n() as i64;
+    desk.marked(operation, letter, quorum)
 });
 
 /// Every reply is late.

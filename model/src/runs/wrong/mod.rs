@@ -1,5 +1,6 @@
-//! Wrong stores that come close: paper 01, the section of that name. Each is the
-//! plain machine with one call exchanged, beside the clauses that it must break.
+//! Wrong stores that come close: paper 01, the section of that name, and such as
+//! misread paper 02. Each is the plain machine with one call exchanged, beside
+//! the clauses that it must break.
 
 mod calls;
 mod hears;
@@ -9,9 +10,10 @@ use super::store::Store;
 use crate::machine::calls::Calls;
 use crate::machine::program::Program;
 use crate::machine::transfers::Transfers;
-use calls::{NoRestarts, RefusesAll, SheetAlone, SpentEarly, Unheard};
+use calls::{LevelFloor, NoRestarts, OpensAtFloor, RefusesAll, SheetAlone, SpentEarly, Unheard};
 use hears::{
-    AllLate, CountedTwice, FIRST_REPLY, FIXED_TAG, HALF, HEAD_COUNT, NEVER_ENDS, OTHER_SHEET,
+    AllLate, CountedTwice, FIRST_REPLY, FIXED_TAG, HALF, HEAD_COUNT, LEVEL_QUORUM, NEVER_ENDS,
+    OTHER_SHEET,
 };
 
 /// A wrong store: its name, how it is opened, and the clauses that it has to
@@ -27,7 +29,8 @@ fn store<C: Calls<Transfers> + 'static>(calls: C) -> Box<dyn Store> {
 }
 
 /// The paper's list in its order; a quorum by heads, which of demand 3 only the
-/// equality excludes; and half of the weight for a quorum.
+/// equality excludes; half of the weight for a quorum; and such as forget the
+/// start weights in one place.
 pub const WRONG: &[Wrong] = &[
     Wrong {
         name: "joins a share's sheet but not its register",
@@ -93,5 +96,20 @@ pub const WRONG: &[Wrong] = &[
         name: "takes half of the weight for a quorum",
         open: || store(HALF),
         breaks: &[Clause::Equality, Clause::Order],
+    },
+    Wrong {
+        name: "opens a house with a start weight at the floor",
+        open: || store(OpensAtFloor),
+        breaks: &[Clause::Equality, Clause::Sheets],
+    },
+    Wrong {
+        name: "has the floor of level servers in a transfer",
+        open: || store(LevelFloor),
+        breaks: &[Clause::Equality, Clause::Sheets],
+    },
+    Wrong {
+        name: "has the quorums of level servers in hear",
+        open: || store(LEVEL_QUORUM),
+        breaks: &[Clause::Equality, Clause::Order, Clause::Margins],
     },
 ];
