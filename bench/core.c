@@ -9,9 +9,9 @@
 
 #include "store.h"
 
-int64_t HOST(open_server)(tovridsa_server *server, uint64_t n, uint64_t f, uint64_t number)
+int64_t HOST(open_server)(tovridsa_server *server, uint64_t n, uint64_t f, uint64_t number, const uint64_t *starts, size_t starts_len)
 {
-    tovridsa_server_answer opened = tovridsa_open_server(n, f, number);
+    tovridsa_server_answer opened = tovridsa_open_server(n, f, number, starts, starts_len);
 
     *server = opened.server;
     return opened.answer;
@@ -39,9 +39,9 @@ int64_t HOST(serve)(tovridsa_server *server, const uint8_t *msg, size_t msg_len,
     return served.answer;
 }
 
-int64_t HOST(open_desk)(tovridsa_desk *desk, uint64_t n, uint64_t f, uint64_t number)
+int64_t HOST(open_desk)(tovridsa_desk *desk, uint64_t n, uint64_t f, uint64_t number, const uint64_t *starts, size_t starts_len)
 {
-    tovridsa_desk_answer opened = tovridsa_open_desk(n, f, number);
+    tovridsa_desk_answer opened = tovridsa_open_desk(n, f, number, starts, starts_len);
 
     *desk = opened.desk;
     return opened.answer;

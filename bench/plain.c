@@ -2,28 +2,34 @@
 
 #include "read.h"
 
-/* The house, then the message and its weights. */
-static int open_message(uint64_t n, uint64_t f, const uint8_t *msg, size_t len, int64_t weights[SERVERS])
+/* The house and its start weights, then the message; its weights and W. */
+static int open_message(uint64_t n, uint64_t f, const uint64_t *starts, size_t starts_len, const uint8_t *msg, size_t len, int64_t weights[SERVERS],
+                        int64_t *total)
 {
     struct message message;
+    uint16_t own[SERVERS];
+    int fault;
 
     if (!good_house(n, f))
         return BAD_HOUSE;
-    return examine(n, f, msg, len, &message, weights);
+    fault = take_starts(n, f, starts, starts_len, own, total);
+    if (fault != FINE)
+        return fault;
+    return examine(n, f, own, *total, msg, len, &message, weights);
 }
 
-int64_t plain_check(uint64_t n, uint64_t f, const uint8_t *msg, size_t len)
+int64_t plain_check(uint64_t n, uint64_t f, const uint64_t *starts, size_t starts_len, const uint8_t *msg, size_t len)
 {
-    int64_t weights[SERVERS];
-    int fault = open_message(n, f, msg, len, weights);
+    int64_t weights[SERVERS], total;
+    int fault = open_message(n, f, starts, starts_len, msg, len, weights, &total);
 
     return fault == FINE ? 0 : refusal(fault);
 }
 
-int64_t plain_weight(uint64_t n, uint64_t f, uint64_t server, const uint8_t *msg, size_t len)
+int64_t plain_weight(uint64_t n, uint64_t f, const uint64_t *starts, size_t starts_len, uint64_t server, const uint8_t *msg, size_t len)
 {
-    int64_t weights[SERVERS];
-    int fault = open_message(n, f, msg, len, weights);
+    int64_t weights[SERVERS], total;
+    int fault = open_message(n, f, starts, starts_len, msg, len, weights, &total);
 
     if (fault != FINE)
         return refusal(fault);
@@ -32,16 +38,16 @@ int64_t plain_weight(uint64_t n, uint64_t f, uint64_t server, const uint8_t *msg
     return weights[server];
 }
 
-int64_t plain_quorum(uint64_t n, uint64_t f, uint64_t map, const uint8_t *msg, size_t len)
+int64_t plain_quorum(uint64_t n, uint64_t f, const uint64_t *starts, size_t starts_len, uint64_t map, const uint8_t *msg, size_t len)
 {
-    int64_t weights[SERVERS];
-    int fault = open_message(n, f, msg, len, weights);
+    int64_t weights[SERVERS], total;
+    int fault = open_message(n, f, starts, starts_len, msg, len, weights, &total);
 
     if (fault != FINE)
         return refusal(fault);
     if (map >> n != 0)
         return refusal(BAD_HOUSE);
-    return margin(n, weights, map);
+    return margin(n, total, weights, map);
 }
 
 /* How many ones a word has: neighbours are added up in pairs, fours and bytes, and the product adds the eight bytes up. */

@@ -7,7 +7,7 @@
 #include <stdint.h>
 #include <string.h>
 
-enum { SERVERS = 16, START = 1000, ROW_LIMIT = 16000, VALUE_LIMIT = 64, BLOCK_LIMIT = 64 };
+enum { SERVERS = 16, WEIGHT_LIMIT = 16000, ROW_LIMIT = 16000, VALUE_LIMIT = 64, BLOCK_LIMIT = 64 };
 
 /* Numbers of the refusals; FINE is none. */
 enum {
@@ -25,7 +25,8 @@ enum {
     BAD_TRANSFER = 11,
     SPENT = 12,
     NARROW = 13,
-    LONG = 14
+    LONG = 14,
+    BAD_START = 15
 };
 
 enum { REQUEST = 1, REPLY = 2, SHARE = 3 };
@@ -107,6 +108,33 @@ static inline bool take32(struct cursor *c, uint32_t *out)
 static inline bool good_house(uint64_t n, uint64_t f)
 {
     return n >= 1 && n <= SERVERS && f <= (n - 1) / 2;
+}
+
+/* What all servers weigh together, W, or 0 for start weights that may not be; n and f are good. Weights have 16 bits, so their sum cannot wrap. */
+static inline int64_t total_of(uint64_t n, uint64_t f, const uint16_t starts[SERVERS])
+{
+    int64_t total = 0, least = UINT16_MAX;
+
+    for (unsigned s = 0; s < n; s++) {
+        total += starts[s];
+        if (starts[s] < least)
+            least = starts[s];
+    }
+    return total <= WEIGHT_LIMIT && least * 2 * (int64_t)(n - f) > total ? total : 0;
+}
+
+/* A list that a call is handed as the start weights of a house, and W; n and f are good. An entry above 16 bits is above the limit by itself. */
+static inline int take_starts(uint64_t n, uint64_t f, const uint64_t *list, size_t len, uint16_t starts[SERVERS], int64_t *total)
+{
+    if (len != n)
+        return BAD_START;
+    for (unsigned s = 0; s < n; s++) {
+        if (list[s] > WEIGHT_LIMIT)
+            return BAD_START;
+        starts[s] = (uint16_t)list[s];
+    }
+    *total = total_of(n, f, starts);
+    return *total != 0 ? FINE : BAD_START;
 }
 
 /* Fields that a kind must have and those that it may have. */
@@ -253,10 +281,10 @@ static inline int read_message(unsigned n, const uint8_t *msg, size_t len, struc
 }
 
 /* The weight of each of the n servers: what it started with, what it received, less what it gave. */
-static inline void weigh(const struct sheet *sheet, unsigned n, int64_t weights[SERVERS])
+static inline void weigh(const struct sheet *sheet, unsigned n, const uint16_t starts[SERVERS], int64_t weights[SERVERS])
 {
     for (unsigned s = 0; s < n; s++)
-        weights[s] = START;
+        weights[s] = starts[s];
     for (unsigned rest = sheet->rows; rest != 0; rest &= rest - 1) {
         unsigned giver = (unsigned)__builtin_ctz(rest);
         const uint32_t *row = sheet->cells[giver];
@@ -270,34 +298,35 @@ static inline void weigh(const struct sheet *sheet, unsigned n, int64_t weights[
     }
 }
 
-static inline bool above_floor(uint64_t n, uint64_t f, const int64_t weights[SERVERS])
+static inline bool above_floor(uint64_t n, uint64_t f, int64_t total, const int64_t weights[SERVERS])
 {
     for (unsigned s = 0; s < n; s++)
-        if (weights[s] * 2 * (int64_t)(n - f) <= START * (int64_t)n)
+        if (weights[s] * 2 * (int64_t)(n - f) <= total)
             return false;
     return true;
 }
 
 /* Twice the weight of the servers that a map names, less that of all servers: above 0 they are a quorum. */
-static inline int64_t margin(uint64_t n, const int64_t weights[SERVERS], uint64_t map)
+static inline int64_t margin(uint64_t n, int64_t total, const int64_t weights[SERVERS], uint64_t map)
 {
     int64_t weight = 0;
 
     for (unsigned s = 0; s < n; s++)
         if ((map >> s & 1) != 0)
             weight += weights[s];
-    return 2 * weight - START * (int64_t)n;
+    return 2 * weight - total;
 }
 
-/* The message, then its weights, which are left in `weights`; the house is good. */
-static inline int examine(uint64_t n, uint64_t f, const uint8_t *msg, size_t len, struct message *m, int64_t weights[SERVERS])
+/* The message, then its weights, which are left in `weights`; the house is good, and `total` is that of its start weights. */
+static inline int examine(uint64_t n, uint64_t f, const uint16_t starts[SERVERS], int64_t total, const uint8_t *msg, size_t len, struct message *m,
+                          int64_t weights[SERVERS])
 {
     int fault = read_message((unsigned)n, msg, len, m);
 
     if (fault != FINE)
         return fault;
-    weigh(&m->sheet, (unsigned)n, weights);
-    return above_floor(n, f, weights) ? FINE : LIGHT;
+    weigh(&m->sheet, (unsigned)n, starts, weights);
+    return above_floor(n, f, total, weights) ? FINE : LIGHT;
 }
 
 #endif

@@ -1,5 +1,5 @@
-/* Servers and desks in plain C. Every call tests the record that it is lent, as the proved library does, and finds the weights while it does so. A
- * message is read once. Of its rows only those are copied that the party lacks, once nothing can refuse the message any more. */
+/* Servers and desks in plain C. Every call tests the record that it is lent, as the proved library does, and finds the weights and their sum, W, while
+ * it does so. A message is read once. Of its rows only those are copied that the party lacks, once nothing can refuse the message any more. */
 #include "store.h"
 
 #include "read.h"
@@ -17,9 +17,27 @@ static bool register_fits(const tovridsa_register *reg)
     return reg->desk != 0 && reg->value.length <= VALUE_LIMIT;
 }
 
+/* What a record's servers weigh, each and all together. */
+struct weighed {
+    int64_t weights[SERVERS];
+    int64_t total;
+};
+
+/* Whether n and f are good, and so are the start weights, of which there are none from n on. */
+static bool config_fits(const tovridsa_config *config, struct weighed *weighed)
+{
+    if (!good_house(config->n, config->f))
+        return false;
+    for (unsigned s = (unsigned)config->n; s < SERVERS; s++)
+        if (config->starts[s] != 0)
+            return false;
+    weighed->total = total_of(config->n, config->f, config->starts);
+    return weighed->total != 0;
+}
+
 /* Whether a party may hold a ledger: nothing stands in a row or column from n on or in a giver's own cell, each row's total fits its count, and every
- * weight, which is left in `weights`, is above the floor. */
-static bool ledger_fits(const tovridsa_ledger *ledger, uint64_t n, uint64_t f, int64_t weights[SERVERS])
+ * weight is above the floor. */
+static bool ledger_fits(const tovridsa_ledger *ledger, const tovridsa_config *config, struct weighed *weighed)
 {
     uint64_t received[SERVERS] = {0};
     uint64_t given[SERVERS];
@@ -37,24 +55,24 @@ static bool ledger_fits(const tovridsa_ledger *ledger, uint64_t n, uint64_t f, i
             return false;
         given[giver] = total;
     }
-    for (unsigned s = (unsigned)n; s < SERVERS; s++)
+    for (unsigned s = (unsigned)config->n; s < SERVERS; s++)
         if (received[s] != 0 || given[s] != 0)
             return false;
     for (unsigned s = 0; s < SERVERS; s++)
-        weights[s] = (int64_t)(START + received[s]) - (int64_t)given[s];
-    return above_floor(n, f, weights);
+        weighed->weights[s] = (int64_t)(config->starts[s] + received[s]) - (int64_t)given[s];
+    return above_floor(config->n, config->f, weighed->total, weighed->weights);
 }
 
-static bool replica_fits(const tovridsa_replica *replica, const tovridsa_config *config, int64_t weights[SERVERS])
+static bool replica_fits(const tovridsa_replica *replica, const tovridsa_config *config, struct weighed *weighed)
 {
-    return ledger_fits(&replica->ledger, config->n, config->f, weights) && register_fits(&replica->reg);
+    return ledger_fits(&replica->ledger, config, weighed) && register_fits(&replica->reg);
 }
 
-static bool server_fits(const tovridsa_server *server, int64_t weights[SERVERS])
+static bool server_fits(const tovridsa_server *server, struct weighed *weighed)
 {
     const tovridsa_config *config = &server->config;
 
-    return good_house(config->n, config->f) && server->number < config->n && replica_fits(&server->replica, config, weights);
+    return config_fits(config, weighed) && server->number < config->n && replica_fits(&server->replica, config, weighed);
 }
 
 static bool operation_fits(const tovridsa_operation *op, uint64_t n, uint32_t round)
@@ -68,12 +86,12 @@ static bool operation_fits(const tovridsa_operation *op, uint64_t n, uint32_t ro
     return op->answered >> n == 0 && op->restarts <= round && op->value.length <= VALUE_LIMIT && register_fits(&op->chosen);
 }
 
-static bool desk_fits(const tovridsa_desk *desk, int64_t weights[SERVERS])
+static bool desk_fits(const tovridsa_desk *desk, struct weighed *weighed)
 {
     const tovridsa_config *config = &desk->config;
 
-    return desk->number >= 1 && desk->number <= UINT16_MAX && good_house(config->n, config->f) &&
-           replica_fits(&desk->replica, config, weights) && operation_fits(&desk->operation, config->n, desk->round);
+    return desk->number >= 1 && desk->number <= UINT16_MAX && config_fits(config, weighed) && replica_fits(&desk->replica, config, weighed) &&
+           operation_fits(&desk->operation, config->n, desk->round);
 }
 
 /* ---- writing */
@@ -263,9 +281,11 @@ static bool compare(const tovridsa_replica *held, const struct message *m, struc
     return true;
 }
 
-/* Whether every weight is above the floor once the newer rows are taken; `weights` has those of what is held. */
-static bool joined_fits(const tovridsa_replica *held, const struct message *m, unsigned newer, const tovridsa_config *config, int64_t weights[SERVERS])
+/* Whether every weight is above the floor once the newer rows are taken; `weighed` has the weights of what is held. */
+static bool joined_fits(const tovridsa_replica *held, const struct message *m, unsigned newer, const tovridsa_config *config, struct weighed *weighed)
 {
+    int64_t *weights = weighed->weights;
+
     if (newer == 0)
         return true;
     for (unsigned rest = newer; rest != 0; rest &= rest - 1) {
@@ -280,7 +300,7 @@ static bool joined_fits(const tovridsa_replica *held, const struct message *m, u
         }
         weights[giver] -= given;
     }
-    return above_floor(config->n, config->f, weights);
+    return above_floor(config->n, config->f, weighed->total, weights);
 }
 
 static void take_rows(tovridsa_ledger *ledger, const struct sheet *sheet, unsigned newer)
@@ -310,13 +330,31 @@ static void take_register(tovridsa_register *reg, const struct message *m)
 
 /* ---- servers */
 
-int64_t plain_open_server(tovridsa_server *server, uint64_t n, uint64_t f, uint64_t number)
+/* Fills a record's config, whose fields are 0. They are left so where the list is refused; n and f are good. */
+static int open_config(tovridsa_config *config, uint64_t n, uint64_t f, const uint64_t *list, size_t len)
 {
+    uint16_t starts[SERVERS];
+    int64_t total;
+    int fault = take_starts(n, f, list, len, starts, &total);
+
+    if (fault != FINE)
+        return fault;
+    config->n = n;
+    config->f = f;
+    memcpy(config->starts, starts, n * sizeof starts[0]);
+    return FINE;
+}
+
+int64_t plain_open_server(tovridsa_server *server, uint64_t n, uint64_t f, uint64_t number, const uint64_t *starts, size_t starts_len)
+{
+    int fault;
+
     memset(server, 0, sizeof *server);
     if (!good_house(n, f) || number >= n)
         return refusal(BAD_HOUSE);
-    server->config.n = n;
-    server->config.f = f;
+    fault = open_config(&server->config, n, f, starts, starts_len);
+    if (fault != FINE)
+        return refusal(fault);
     server->number = number;
     return 0;
 }
@@ -326,20 +364,20 @@ int64_t plain_transfer(tovridsa_server *server, uint64_t taker, uint64_t amount)
     tovridsa_ledger *ledger = &server->replica.ledger;
     uint64_t n = server->config.n;
     uint64_t giver = server->number;
-    int64_t weights[SERVERS];
+    struct weighed weighed;
     int64_t rest;
 
-    if (!server_fits(server, weights))
+    if (!server_fits(server, &weighed))
         return refusal(BAD_HOUSE);
     if (taker == giver || taker >= n || amount == 0)
         return refusal(BAD_TRANSFER);
     if (ledger->counts[giver] == UINT16_MAX)
         return refusal(SPENT);
     /* A weight is above 0 and at most that of all servers. */
-    if (amount >= (uint64_t)weights[giver])
+    if (amount >= (uint64_t)weighed.weights[giver])
         return refusal(THIN);
-    rest = weights[giver] - (int64_t)amount;
-    if (rest * 2 * (int64_t)(n - server->config.f) <= START * (int64_t)n)
+    rest = weighed.weights[giver] - (int64_t)amount;
+    if (rest * 2 * (int64_t)(n - server->config.f) <= weighed.total)
         return refusal(THIN);
     ledger->counts[giver] += 1;
     ledger->cells[giver * SERVERS + taker] += (uint32_t)amount;
@@ -349,9 +387,9 @@ int64_t plain_transfer(tovridsa_server *server, uint64_t taker, uint64_t amount)
 int64_t plain_share(const tovridsa_server *server, uint8_t *out, size_t len, size_t at)
 {
     struct envelope e = {SHARE, (uint8_t)server->number, 0, 0, 0};
-    int64_t weights[SERVERS];
+    struct weighed weighed;
 
-    if (!server_fits(server, weights))
+    if (!server_fits(server, &weighed))
         return refusal(BAD_HOUSE);
     return send(&e, &server->replica, out, len, at);
 }
@@ -360,21 +398,22 @@ int64_t plain_serve(tovridsa_server *server, const uint8_t *msg, size_t msg_len,
 {
     const tovridsa_config *config = &server->config;
     tovridsa_replica *held = &server->replica;
-    int64_t weights[SERVERS], told[SERVERS];
+    struct weighed weighed;
+    int64_t told[SERVERS];
     struct message m;
     struct join join;
     struct envelope e;
     int fault;
 
     *end = at;
-    if (!server_fits(server, weights))
+    if (!server_fits(server, &weighed))
         return refusal(BAD_HOUSE);
-    fault = examine(config->n, config->f, msg, msg_len, &m, told);
+    fault = examine(config->n, config->f, config->starts, weighed.total, msg, msg_len, &m, told);
     if (fault != FINE)
         return refusal(fault);
     if (m.kind == REPLY || (m.kind == REQUEST && m.server != server->number))
         return refusal(STRAY);
-    if (!compare(held, &m, &join) || (join.newer >> server->number & 1) != 0 || !joined_fits(held, &m, join.newer, config, weights))
+    if (!compare(held, &m, &join) || (join.newer >> server->number & 1) != 0 || !joined_fits(held, &m, join.newer, config, &weighed))
         return refusal(CLASH);
     if (m.kind == REQUEST) {
         bool stamped = join.higher || held->reg.stamp != 0;
@@ -393,13 +432,16 @@ int64_t plain_serve(tovridsa_server *server, const uint8_t *msg, size_t msg_len,
 
 /* ---- desks */
 
-int64_t plain_open_desk(tovridsa_desk *desk, uint64_t n, uint64_t f, uint64_t number)
+int64_t plain_open_desk(tovridsa_desk *desk, uint64_t n, uint64_t f, uint64_t number, const uint64_t *starts, size_t starts_len)
 {
+    int fault;
+
     memset(desk, 0, sizeof *desk);
     if (number < 1 || number > UINT16_MAX || !good_house(n, f))
         return refusal(BAD_HOUSE);
-    desk->config.n = n;
-    desk->config.f = f;
+    fault = open_config(&desk->config, n, f, starts, starts_len);
+    if (fault != FINE)
+        return refusal(fault);
     desk->number = number;
     return 0;
 }
@@ -407,9 +449,9 @@ int64_t plain_open_desk(tovridsa_desk *desk, uint64_t n, uint64_t f, uint64_t nu
 static int64_t begin(tovridsa_desk *desk, uint16_t kind, uint32_t note, const uint8_t *value, size_t len)
 {
     tovridsa_operation *op = &desk->operation;
-    int64_t weights[SERVERS];
+    struct weighed weighed;
 
-    if (!desk_fits(desk, weights))
+    if (!desk_fits(desk, &weighed))
         return refusal(BAD_HOUSE);
     if (len > VALUE_LIMIT)
         return refusal(LONG);
@@ -440,9 +482,9 @@ int64_t plain_begin_write(tovridsa_desk *desk, uint32_t note, const uint8_t *val
 int64_t plain_ask(const tovridsa_desk *desk, uint64_t server, uint8_t *out, size_t len, size_t at)
 {
     struct envelope e = {REQUEST, (uint8_t)server, (uint16_t)desk->number, desk->round, desk->operation.note};
-    int64_t weights[SERVERS];
+    struct weighed weighed;
 
-    if (!desk_fits(desk, weights))
+    if (!desk_fits(desk, &weighed))
         return refusal(BAD_HOUSE);
     if (desk->operation.mode != RUNNING)
         return refusal(IDLE);
@@ -503,29 +545,30 @@ int64_t plain_hear(tovridsa_desk *desk, const uint8_t *msg, size_t len)
     const tovridsa_config *config = &desk->config;
     tovridsa_operation *op = &desk->operation;
     tovridsa_replica *held = &desk->replica;
-    int64_t weights[SERVERS], told[SERVERS];
+    struct weighed weighed;
+    int64_t told[SERVERS];
     struct message m;
     struct join join;
     uint16_t answered;
     bool quorum;
     int fault;
 
-    if (!desk_fits(desk, weights))
+    if (!desk_fits(desk, &weighed))
         return refusal(BAD_HOUSE);
-    fault = examine(config->n, config->f, msg, len, &m, told);
+    fault = examine(config->n, config->f, config->starts, weighed.total, msg, len, &m, told);
     if (fault != FINE)
         return refusal(fault);
     if (m.kind != REPLY || m.desk != desk->number)
         return refusal(STRAY);
     if (op->mode != RUNNING || m.round != desk->round)
         return TOVRIDSA_LATE;
-    if (!compare(held, &m, &join) || join.behind || !joined_fits(held, &m, join.newer, config, weights))
+    if (!compare(held, &m, &join) || join.behind || !joined_fits(held, &m, join.newer, config, &weighed))
         return refusal(CLASH);
     if (join.newer != 0)
         return restart(desk, &m, &join);
 
     answered = (uint16_t)(op->answered | 1 << m.server);
-    quorum = margin(config->n, weights, answered) > 0;
+    quorum = margin(config->n, weighed.total, weighed.weights, answered) > 0;
     if (quorum && op->phase == 1)
         return choose(desk, &m, &join);
     if (join.higher)
@@ -539,10 +582,10 @@ int64_t plain_hear(tovridsa_desk *desk, const uint8_t *msg, size_t len)
 int64_t plain_result(const tovridsa_desk *desk, tovridsa_result_answer *told)
 {
     const tovridsa_operation *op = &desk->operation;
-    int64_t weights[SERVERS];
+    struct weighed weighed;
 
     memset(told, 0, sizeof *told);
-    if (!desk_fits(desk, weights))
+    if (!desk_fits(desk, &weighed))
         return told->answer = refusal(BAD_HOUSE);
     if (op->mode != ENDED)
         return told->answer = refusal(IDLE);
@@ -557,20 +600,20 @@ int64_t plain_result(const tovridsa_desk *desk, tovridsa_result_answer *told)
 int64_t plain_margin(const tovridsa_desk *desk)
 {
     const tovridsa_operation *op = &desk->operation;
-    int64_t weights[SERVERS];
+    struct weighed weighed;
 
-    if (!desk_fits(desk, weights))
+    if (!desk_fits(desk, &weighed))
         return refusal(BAD_HOUSE);
     if (op->mode != RUNNING)
         return refusal(IDLE);
-    return margin(desk->config.n, weights, op->answered);
+    return margin(desk->config.n, weighed.total, weighed.weights, op->answered);
 }
 
 int64_t plain_drop(tovridsa_desk *desk)
 {
-    int64_t weights[SERVERS];
+    struct weighed weighed;
 
-    if (!desk_fits(desk, weights))
+    if (!desk_fits(desk, &weighed))
         return refusal(BAD_HOUSE);
     if (desk->operation.mode != RUNNING)
         return refusal(IDLE);

@@ -11,11 +11,11 @@
 
 /* The calls, each with the name of who makes it before its own. */
 #define STORE(by) \
-    int64_t by##_open_server(tovridsa_server *server, uint64_t n, uint64_t f, uint64_t number); \
+    int64_t by##_open_server(tovridsa_server *server, uint64_t n, uint64_t f, uint64_t number, const uint64_t *starts, size_t starts_len); \
     int64_t by##_transfer(tovridsa_server *server, uint64_t taker, uint64_t amount); \
     int64_t by##_share(const tovridsa_server *server, uint8_t *out, size_t len, size_t at); \
     int64_t by##_serve(tovridsa_server *server, const uint8_t *msg, size_t msg_len, uint8_t *out, size_t out_len, size_t at, uint64_t *end); \
-    int64_t by##_open_desk(tovridsa_desk *desk, uint64_t n, uint64_t f, uint64_t number); \
+    int64_t by##_open_desk(tovridsa_desk *desk, uint64_t n, uint64_t f, uint64_t number, const uint64_t *starts, size_t starts_len); \
     int64_t by##_begin_read(tovridsa_desk *desk, uint32_t note); \
     int64_t by##_begin_write(tovridsa_desk *desk, uint32_t note, const uint8_t *value, size_t len); \
     int64_t by##_ask(const tovridsa_desk *desk, uint64_t server, uint8_t *out, size_t len, size_t at); \

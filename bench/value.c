@@ -2,11 +2,11 @@
 #include "value.h"
 #include "store.h"
 
-tovridsa_server_answer tovridsa_open_server(uint64_t n, uint64_t f, uint64_t number)
+tovridsa_server_answer tovridsa_open_server(uint64_t n, uint64_t f, uint64_t number, const uint64_t *starts, size_t starts_len)
 {
     tovridsa_server_answer opened;
 
-    opened.answer = plain_open_server(&opened.server, n, f, number);
+    opened.answer = plain_open_server(&opened.server, n, f, number, starts, starts_len);
     return opened;
 }
 
@@ -33,11 +33,11 @@ tovridsa_serve_answer tovridsa_serve(tovridsa_server server, const uint8_t *msg,
     return served;
 }
 
-tovridsa_desk_answer tovridsa_open_desk(uint64_t n, uint64_t f, uint64_t number)
+tovridsa_desk_answer tovridsa_open_desk(uint64_t n, uint64_t f, uint64_t number, const uint64_t *starts, size_t starts_len)
 {
     tovridsa_desk_answer opened;
 
-    opened.answer = plain_open_desk(&opened.desk, n, f, number);
+    opened.answer = plain_open_desk(&opened.desk, n, f, number, starts, starts_len);
     return opened;
 }
 

@@ -7,6 +7,7 @@ use crate::native;
 use crate::scene::{self, accepted, written, Cluster, Scene, NOTE, ROOM};
 use crate::store::Store;
 use model::calls::Calls;
+use model::weights::level;
 use std::hint::black_box;
 
 /// What a case is about, which decides the table that it stands in.
@@ -55,7 +56,9 @@ enum Question {
 }
 
 impl Question {
+    /// In a cluster whose servers start level.
     fn case(self, name: &str, n: u64, f: u64, bytes: Vec<u8>) -> Case {
+        let starts = level(n);
         Case {
             name: name.to_string(),
             group: Group::Message,
@@ -63,42 +66,62 @@ impl Question {
             by: Box::new(move |i| {
                 let all: &'static [Implementation; 3] = &ALL;
                 let calls = &all[i].calls;
+                let answer = self.ask(calls, n, f, &starts, &bytes);
                 Subject {
-                    said: self.ask(calls, n, f, &bytes).to_le_bytes().to_vec(),
-                    repeat: self.repeated(calls, n, f, bytes.clone()),
+                    said: answer.to_le_bytes().to_vec(),
+                    repeat: self.repeated(calls, n, f, starts.clone(), bytes.clone()),
                 }
             }),
         }
     }
 
-    fn ask(self, by: &Calls, n: u64, f: u64, bytes: &[u8]) -> i64 {
+    fn ask(self, by: &Calls, n: u64, f: u64, starts: &[u64], bytes: &[u8]) -> i64 {
         match self {
-            Question::Check => (by.check)(n, f, bytes),
-            Question::Weight { server } => (by.weight)(n, f, server, bytes),
-            Question::Quorum { map } => (by.quorum)(n, f, map, bytes),
+            Question::Check => (by.check)(n, f, starts, bytes),
+            Question::Weight { server } => (by.weight)(n, f, starts, server, bytes),
+            Question::Quorum { map } => (by.quorum)(n, f, starts, map, bytes),
             Question::Seats => (by.seats)(bytes),
         }
     }
 
     /// The compiler knows neither the function, nor its arguments, nor that the answers are thrown away.
-    fn repeated(self, by: &'static Calls, n: u64, f: u64, bytes: Vec<u8>) -> Box<dyn FnMut(u32)> {
+    fn repeated(
+        self,
+        by: &'static Calls,
+        n: u64,
+        f: u64,
+        starts: Vec<u64>,
+        bytes: Vec<u8>,
+    ) -> Box<dyn FnMut(u32)> {
         Box::new(move |times| {
             let by = black_box(by);
-            let (n, f, bytes) = (n, f, bytes.as_slice());
+            let (n, f, starts, bytes) = (n, f, starts.as_slice(), bytes.as_slice());
             match self {
                 Question::Check => each(times, || {
-                    (by.check)(black_box(n), black_box(f), black_box(bytes))
+                    (by.check)(
+                        black_box(n),
+                        black_box(f),
+                        black_box(starts),
+                        black_box(bytes),
+                    )
                 }),
                 Question::Weight { server } => each(times, || {
                     (by.weight)(
                         black_box(n),
                         black_box(f),
+                        black_box(starts),
                         black_box(server),
                         black_box(bytes),
                     )
                 }),
                 Question::Quorum { map } => each(times, || {
-                    (by.quorum)(black_box(n), black_box(f), black_box(map), black_box(bytes))
+                    (by.quorum)(
+                        black_box(n),
+                        black_box(f),
+                        black_box(starts),
+                        black_box(map),
+                        black_box(bytes),
+                    )
                 }),
                 Question::Seats => each(times, || (by.seats)(black_box(bytes))),
             }

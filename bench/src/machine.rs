@@ -63,9 +63,9 @@ impl Store for Model {
     type Server = ModelServer;
     type Desk = ModelDesk;
 
-    fn open_server(&self, n: u64, f: u64, number: u64) -> ModelServer {
+    fn open_server(&self, config: Config, number: u64) -> ModelServer {
         ModelServer {
-            config: Config::level(n, f),
+            config,
             server: Server::fresh(number as usize),
         }
     }
@@ -97,9 +97,9 @@ impl Store for Model {
         }
     }
 
-    fn open_desk(&self, n: u64, f: u64, number: u64) -> ModelDesk {
+    fn open_desk(&self, config: Config, number: u64) -> ModelDesk {
         ModelDesk {
-            config: Config::level(n, f),
+            config,
             desk: Desk::fresh(number as u16),
         }
     }

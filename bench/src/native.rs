@@ -3,12 +3,13 @@
 
 use crate::records::{untold, Desk, ResultAnswer, Server};
 use crate::store::Store;
+use model::weights::Config;
 
 type Refused = i64;
 
 #[derive(Clone, Copy)]
 pub struct Native {
-    open_server: unsafe extern "C" fn(*mut Server, u64, u64, u64) -> Refused,
+    open_server: unsafe extern "C" fn(*mut Server, u64, u64, u64, *const u64, usize) -> Refused,
     transfer: unsafe extern "C" fn(*mut Server, u64, u64) -> Refused,
     share: unsafe extern "C" fn(*const Server, *mut u8, usize, usize) -> i64,
     serve: unsafe extern "C" fn(
@@ -20,7 +21,7 @@ pub struct Native {
         usize,
         *mut u64,
     ) -> Refused,
-    open_desk: unsafe extern "C" fn(*mut Desk, u64, u64, u64) -> Refused,
+    open_desk: unsafe extern "C" fn(*mut Desk, u64, u64, u64, *const u64, usize) -> Refused,
     begin_read: unsafe extern "C" fn(*mut Desk, u32) -> Refused,
     begin_write: unsafe extern "C" fn(*mut Desk, u32, *const u8, usize) -> Refused,
     ask: unsafe extern "C" fn(*const Desk, u64, *mut u8, usize, usize) -> i64,
@@ -36,7 +37,14 @@ macro_rules! row {
      $ask:ident, $hear:ident, $result:ident, $margin:ident, $drop:ident) => {
         pub const $name: Native = {
             extern "C" {
-                fn $open_server(server: *mut Server, n: u64, f: u64, number: u64) -> i64;
+                fn $open_server(
+                    server: *mut Server,
+                    n: u64,
+                    f: u64,
+                    number: u64,
+                    starts: *const u64,
+                    starts_len: usize,
+                ) -> i64;
                 fn $transfer(server: *mut Server, taker: u64, amount: u64) -> i64;
                 fn $share(server: *const Server, out: *mut u8, len: usize, at: usize) -> i64;
                 fn $serve(
@@ -48,7 +56,14 @@ macro_rules! row {
                     at: usize,
                     end: *mut u64,
                 ) -> i64;
-                fn $open_desk(desk: *mut Desk, n: u64, f: u64, number: u64) -> i64;
+                fn $open_desk(
+                    desk: *mut Desk,
+                    n: u64,
+                    f: u64,
+                    number: u64,
+                    starts: *const u64,
+                    starts_len: usize,
+                ) -> i64;
                 fn $begin_read(desk: *mut Desk, note: u32) -> i64;
                 fn $begin_write(desk: *mut Desk, note: u32, value: *const u8, len: usize) -> i64;
                 fn $ask(desk: *const Desk, server: u64, out: *mut u8, len: usize, at: usize)
@@ -144,16 +159,39 @@ row!(
     core_drop
 );
 
+/// n, f and the list of a cluster, as a call takes them.
+fn numbers(config: Config) -> (u64, u64, Vec<u64>) {
+    (config.n() as u64, config.f() as u64, config.starts())
+}
+
+// Openings of any numbers and any list: the answer, and the record.
+impl Native {
+    pub fn opened_server(&self, n: u64, f: u64, number: u64, starts: &[u64]) -> (i64, Server) {
+        let mut server = Server::NONE;
+        let (list, length) = (starts.as_ptr(), starts.len());
+        // SAFETY: as for all calls, below.
+        let answer = unsafe { (self.open_server)(&mut server, n, f, number, list, length) };
+        (answer, server)
+    }
+
+    pub fn opened_desk(&self, n: u64, f: u64, number: u64, starts: &[u64]) -> (i64, Desk) {
+        let mut desk = Desk::NONE;
+        let (list, length) = (starts.as_ptr(), starts.len());
+        // SAFETY: as for all calls, below.
+        let answer = unsafe { (self.open_desk)(&mut desk, n, f, number, list, length) };
+        (answer, desk)
+    }
+}
+
 // SAFETY of all calls: records are lent as references, so they are aligned and nobody else has them; slices are valid for their lengths, and no two of
 // them overlap where one is written; the functions take any bits in a record and keep no pointer.
 impl Store for Native {
     type Server = Server;
     type Desk = Desk;
 
-    fn open_server(&self, n: u64, f: u64, number: u64) -> Server {
-        let mut server = Server::NONE;
-        unsafe { (self.open_server)(&mut server, n, f, number) };
-        server
+    fn open_server(&self, config: Config, number: u64) -> Server {
+        let (n, f, starts) = numbers(config);
+        self.opened_server(n, f, number, &starts).1
     }
 
     fn transfer(&self, server: &mut Server, taker: u64, amount: u64) -> i64 {
@@ -180,10 +218,9 @@ impl Store for Native {
         (answer, end as usize)
     }
 
-    fn open_desk(&self, n: u64, f: u64, number: u64) -> Desk {
-        let mut desk = Desk::NONE;
-        unsafe { (self.open_desk)(&mut desk, n, f, number) };
-        desk
+    fn open_desk(&self, config: Config, number: u64) -> Desk {
+        let (n, f, starts) = numbers(config);
+        self.opened_desk(n, f, number, &starts).1
     }
 
     fn begin_read(&self, desk: &mut Desk, note: u32) -> i64 {

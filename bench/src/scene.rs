@@ -2,6 +2,7 @@
 
 use crate::messages::block;
 use crate::store::Store;
+use model::weights::Config;
 
 /// Room for any message.
 pub const ROOM: usize = 1111;
@@ -10,7 +11,7 @@ pub const ROOM: usize = 1111;
 pub const DESK: u64 = 7;
 pub const NOTE: u32 = 0x5EA7_0001;
 
-/// How many servers there are, what they gave each other, and the value that is written.
+/// How many servers there are, which all start at 1,000, what they gave each other, and the value that is written.
 pub struct Scene {
     pub name: &'static str,
     pub n: u64,
@@ -61,8 +62,9 @@ pub struct Cluster<S: Store> {
 impl<S: Store> Cluster<S> {
     /// The gifts are made and told to all servers, and the value is written.
     pub fn open(store: S, scene: &Scene) -> Cluster<S> {
-        let (n, f) = (scene.n, scene.f);
-        let mut servers: Vec<S::Server> = (0..n).map(|i| store.open_server(n, f, i)).collect();
+        let config = Config::level(scene.n, scene.f);
+        let opened = (0..scene.n).map(|i| store.open_server(config, i));
+        let mut servers: Vec<S::Server> = opened.collect();
         for &(giver, taker, amount) in &scene.gifts {
             accepted(store.transfer(&mut servers[giver], taker, amount));
         }
@@ -74,7 +76,7 @@ impl<S: Store> Cluster<S> {
             }
         }
         let mut cluster = Cluster {
-            desk: store.open_desk(n, f, DESK),
+            desk: store.open_desk(config, DESK),
             request: [0; ROOM],
             replies: vec![[0; ROOM]; servers.len()],
             lengths: vec![0; servers.len()],

@@ -1,10 +1,11 @@
-//! The plain C does the same work as the model: on 200,000 random cases, lawful, damaged and out of bounds, it gives the same four answers. And the
-//! messages that are timed are what their comments say.
+//! The plain C does the same work as the model: on 200,000 random cases, lawful, damaged and out of bounds, with start weights level, uneven and
+//! unlawful, it gives the same four answers. And the messages that are timed are what their comments say.
 
 use bench::implementation::PLAIN;
 use bench::{messages, plain};
 use model::calls::MODEL;
 use model::cases::Case;
+use model::weights::level;
 
 const SEED: u64 = 20_241_115;
 const CASES: u64 = 200_000;
@@ -23,8 +24,8 @@ fn the_c_answers_as_the_model_does() {
     }
     for case in differences.iter().take(SHOWN) {
         println!(
-            "n {}, f {}, server {}, map {:#x}",
-            case.n, case.f, case.server, case.map
+            "n {}, f {}, starts {:?}, server {}, map {:#x}",
+            case.n, case.f, case.starts, case.server, case.map
         );
         println!("message {}", hex(&case.message));
         println!("block {}", hex(&case.block));
@@ -49,7 +50,7 @@ fn hex(bytes: &[u8]) -> String {
 fn the_timed_messages_are_as_described() {
     let weights = |n, f, bytes: &[u8]| {
         (0..n)
-            .map(|server| plain::weight(n, f, server, bytes))
+            .map(|server| plain::weight(n, f, &level(n), server, bytes))
             .collect::<Vec<_>>()
     };
 
@@ -68,5 +69,5 @@ fn the_timed_messages_are_as_described() {
     expected[0] = 1015;
     assert_eq!(weights(16, 7, &longest), expected);
 
-    assert_eq!(plain::check(5, 1, &messages::cut()), -1_000_002);
+    assert_eq!(plain::check(5, 1, &level(5), &messages::cut()), -1_000_002);
 }

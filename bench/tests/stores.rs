@@ -1,6 +1,7 @@
 //! The plain C servers and desks do the same work as the proved library's and the model's: on random steps, with messages sent, forged and damaged, the
 //! three give the same answers and write the same bytes; the C and the library leave the same records, byte for byte, and the model's records hold the
-//! same. Records that were damaged, which the model cannot have, are given to the C and the library.
+//! same. Most houses do not start level. Records that were damaged, which the model cannot have, are given to the C and the library, and so are
+//! numbers and lists by which no party is opened.
 
 use bench::machine::{Model, ModelDesk, ModelServer};
 use bench::native::{Native, CORE, LENT, PLAIN, VALUE};
@@ -9,9 +10,10 @@ use bench::store::Store;
 use model::machine::record::{desk_line, server_line};
 use model::machine::register::Pair;
 use model::machine::sheet::Party;
-use model::random::{cluster, Random};
+use model::random::{bad_cluster, Random};
 use model::runs::forge::forge;
 use model::runs::seen::shown;
+use model::starts::{config, unlawful};
 use model::weights::{Config, Ledger};
 use std::collections::BTreeMap;
 
@@ -86,6 +88,46 @@ fn damaged_records_get_the_same_answers() {
 }
 
 #[test]
+fn openings_do_the_same() {
+    let mut tally = BTreeMap::new();
+    for run in 0..RUNS * STEPS {
+        let mut random = Random::of_case(SEED ^ 2, run);
+        let house = config(&mut random);
+        let (n, f, mut starts) = (house.n() as u64, house.f() as u64, house.starts());
+        if random.one_in(2) {
+            starts = unlawful(&mut random, n, f);
+        }
+        let (n, f) = match random.below(4) {
+            0 => bad_cluster(&mut random),
+            _ => (n, f),
+        };
+        let number = match random.below(4) {
+            0 => random.word() >> random.below(64),
+            _ => random.within(1, n.clamp(2, 16)) - 1,
+        };
+        let words = format!("{n} {f} {number} {starts:?}");
+        let servers = [CORE, PLAIN, VALUE].map(|by| by.opened_server(n, f, number, &starts));
+        assert!(servers == [servers[0]; 3], "{words}");
+        let desks = [CORE, PLAIN, VALUE].map(|by| by.opened_desk(n, f, number, &starts));
+        assert!(desks == [desks[0]; 3], "{words}");
+        let model = Config::new(n, f, &starts).map_err(|place| place.number());
+        let outside = [number >= n, number == 0 || number > 65_535];
+        for (answer, outside) in [servers[0].0, desks[0].0].into_iter().zip(outside) {
+            let expected = match model {
+                Err(1) => -1_000_001,
+                _ if outside => -1_000_001,
+                Err(refused) => -1_000_000 - i64::from(refused),
+                Ok(_) => 0,
+            };
+            assert_eq!(answer, expected, "{words}");
+            count(&mut tally, "open", answer);
+        }
+    }
+    println!("{tally:?}");
+    assert_eq!(tally.len(), 3, "0, 1 and 15");
+}
+
+#[test]
 fn kinds_and_phases_go_with_the_mode() {
     let mut reached = BTreeMap::new();
     for run in 0..RUNS {
@@ -145,21 +187,21 @@ struct Said {
 
 impl Trio {
     fn open(random: &mut Random) -> Trio {
-        let (n, f) = cluster(random);
+        let config = config(random);
         Trio {
-            config: Config::level(n, f),
-            servers: (0..n)
+            config,
+            servers: (0..config.n() as u64)
                 .map(|i| Three {
-                    core: CORE.open_server(n, f, i),
-                    plain: PLAIN.open_server(n, f, i),
-                    model: Model.open_server(n, f, i),
+                    core: CORE.open_server(config, i),
+                    plain: PLAIN.open_server(config, i),
+                    model: Model.open_server(config, i),
                 })
                 .collect(),
             desks: (1..=DESKS)
                 .map(|i| Three {
-                    core: CORE.open_desk(n, f, i),
-                    plain: PLAIN.open_desk(n, f, i),
-                    model: Model.open_desk(n, f, i),
+                    core: CORE.open_desk(config, i),
+                    plain: PLAIN.open_desk(config, i),
+                    model: Model.open_desk(config, i),
                 })
                 .collect(),
             sent: Vec::new(),
@@ -185,10 +227,14 @@ impl Trio {
     fn transfer(&mut self, random: &mut Random, tally: &mut Tally, i: usize, words: &str) {
         let n = self.servers.len() as u64;
         let taker = random.below(n + 1);
-        let amount = match random.below(8) {
+        let held = &self.servers[i].model.server.pair.sheet;
+        let spare = self.config.spare(held.weights(self.config)[i]) as u64;
+        let amount = match random.below(10) {
             0 => 0,
             1 => random.word(),
             2 => random.below(1_500),
+            3 => spare,
+            4 => spare + 1,
             _ => random.below(120),
         };
         let three = &mut self.servers[i];
@@ -465,15 +511,19 @@ impl Trio {
     }
 }
 
+/// What lies before the ledger in a record: n, f, the start weights and the number.
+const HEAD: usize = 8 + 8 + 32 + 8;
+
 /// Changes one to three bytes.
 fn damage(random: &mut Random, record: &mut impl Plain) {
     for _ in 0..random.within(1, 3) {
         let bytes = record.bytes();
-        // The ledger's cells are most of a record; the fields around them are hit as often.
-        let place = match random.below(4) {
-            0 => random.index(24 + 32),
+        // The ledger's cells are most of a record; the fields around them are hit as often, and the start weights too.
+        let place = match random.below(5) {
+            0 => random.index(HEAD + 32),
             1 => random.index(bytes.len()),
-            _ => 24 + 1056 + random.index(bytes.len() - 24 - 1056),
+            2 => 16 + random.index(32),
+            _ => HEAD + 1056 + random.index(bytes.len() - HEAD - 1056),
         };
         bytes[place] = match random.below(4) {
             0 => random.word() as u8,
