@@ -1,6 +1,7 @@
 /*
- * A cluster in memory, through tovridsa.h alone: five servers, four desks, and a network that loses, doubles, cuts and reorders messages. The desks
- * look at a block of seats, sell and take back, while weight moves between the servers and one of them crashes.
+ * A cluster in memory, through tovridsa.h alone: five servers, of which one weighs more than the others at the start, four desks, and a network that
+ * loses, doubles, cuts and reorders messages. The desks look at a block of seats, sell and take back, while weight moves between the servers and one of
+ * them crashes.
  *
  *     cluster [seed [errands]]
  *
@@ -27,8 +28,10 @@
 #include <stdlib.h>
 #include <string.h>
 
-/* The house. */
-enum { SERVERS = 5, CRASHES = 1, DESKS = 4, TOTAL = 1000 * SERVERS };
+/* The house: servers 1 to 4 weigh the same at the start, and server 0 is a strong one. All together weigh 5,000. */
+enum { SERVERS = 5, CRASHES = 1, DESKS = 4, WEAK = 850, STRONG = 1600, TOTAL = STRONG + (SERVERS - 1) * WEAK };
+
+static const uint64_t starts[SERVERS] = {STRONG, WEAK, WEAK, WEAK, WEAK};
 
 /* The block: its bytes, its seats, the seats of a row, and the most that one party takes. */
 enum { BLOCK = 6, SEATS = 8 * BLOCK, ROW = 16, PARTY = 4 };
@@ -124,13 +127,13 @@ static void check_message(const uint8_t *msg, size_t len)
 {
     int64_t total = 0;
 
-    expect(tovridsa_check(SERVERS, CRASHES, msg, len) == 0, "a message that was sent does not pass");
+    expect(tovridsa_check(SERVERS, CRASHES, starts, SERVERS, msg, len) == 0, "a message that was sent does not pass");
     for (unsigned s = 0; s < SERVERS; s++) {
-        int64_t weight = tovridsa_weight(SERVERS, CRASHES, s, msg, len);
+        int64_t weight = tovridsa_weight(SERVERS, CRASHES, starts, SERVERS, s, msg, len);
         unsigned others = ((1u << SERVERS) - 1) & ~(1u << s);
 
         expect(weight * 2 * (SERVERS - CRASHES) > TOTAL, "server %u weighs %" PRId64 ", which is not above the floor", s, weight);
-        expect(tovridsa_quorum(SERVERS, CRASHES, others, msg, len) > 0, "all servers but %u are no quorum", s);
+        expect(tovridsa_quorum(SERVERS, CRASHES, starts, SERVERS, others, msg, len) > 0, "all servers but %u are no quorum", s);
         total += weight;
     }
     expect(total == TOTAL, "the weights total %" PRId64, total);
@@ -186,7 +189,7 @@ static unsigned gifts, gifts_refused;
 static void open_servers(void)
 {
     for (unsigned s = 0; s < SERVERS; s++) {
-        tovridsa_server_answer opened = tovridsa_open_server(SERVERS, CRASHES, s);
+        tovridsa_server_answer opened = tovridsa_open_server(SERVERS, CRASHES, s, starts, SERVERS);
 
         expect(opened.answer == 0, "server %u is not opened", s);
         servers[s].record = opened.server;
@@ -241,7 +244,7 @@ static int64_t weight_by(unsigned teller, unsigned server)
     int64_t end = tovridsa_share(servers[teller].record, out, sizeof out, 0);
 
     expect(end > 0, "server %u does not share: %" PRId64, teller, end);
-    return tovridsa_weight(SERVERS, CRASHES, server, out, (size_t)end);
+    return tovridsa_weight(SERVERS, CRASHES, starts, SERVERS, server, out, (size_t)end);
 }
 
 /* One server gives weight to another, if it can spare it; nobody gives to one that does not answer any more. */
@@ -419,7 +422,7 @@ static bool is_writing(const struct desk *desk)
 
 static void open_desk(struct desk *desk, unsigned number)
 {
-    tovridsa_desk_answer opened = tovridsa_open_desk(SERVERS, CRASHES, number);
+    tovridsa_desk_answer opened = tovridsa_open_desk(SERVERS, CRASHES, number, starts, SERVERS);
 
     expect(opened.answer == 0, "desk %u is not opened", number);
     desk->record = opened.desk;
@@ -432,7 +435,7 @@ static void check_margin(const struct desk *desk, const uint8_t *request, size_t
     int64_t margin = tovridsa_margin(desk->record);
 
     expect(margin >= -TOTAL && margin <= 0, "desk %u has the margin %" PRId64 " while its operation runs", desk_number(desk), margin);
-    expect(margin == tovridsa_quorum(SERVERS, CRASHES, desk->record.operation.answered, request, len),
+    expect(margin == tovridsa_quorum(SERVERS, CRASHES, starts, SERVERS, desk->record.operation.answered, request, len),
            "desk %u has another margin than its request", desk_number(desk));
 }
 
@@ -791,8 +794,9 @@ int main(int argc, char **argv)
         wanted = (unsigned)number_of(argv[2], MOST_ERRANDS);
     chance = seed;
 
-    printf("%d servers, of which %d may crash, and %d desks: those with an odd number hear by value, the others on their record, lent.\n", SERVERS,
-           CRASHES, DESKS);
+    printf("%d servers, of which %d may crash: server 0 weighs %d at the start, each other %d. %d desks: those with an odd number hear by value, the\n"
+           "others on their record, lent.\n",
+           SERVERS, CRASHES, STRONG, WEAK, DESKS);
     printf("The network loses one message in %d, doubles one in %d, cuts one in %d short, and keeps no order. Seed %" PRIu64 ", %u errands.\n", LOST,
            DOUBLED, CUT, seed, wanted);
     open_servers();

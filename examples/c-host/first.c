@@ -8,8 +8,10 @@
 #include <stdio.h>
 #include <stdlib.h>
 
-/* Five servers, of which one may crash. */
+/* Five servers, of which one may crash. They start level; all parties are opened with the same list. */
 enum { SERVERS = 5, CRASHES = 1, DESK = 7 };
+
+static const uint64_t starts[SERVERS] = {1000, 1000, 1000, 1000, 1000};
 
 static tovridsa_server servers[SERVERS];
 
@@ -65,12 +67,12 @@ int main(void)
     const uint8_t block[] = {0xA0, 0x07}; /* sixteen seats, five of them sold */
 
     for (unsigned s = 0; s < SERVERS; s++) {
-        tovridsa_server_answer opened = tovridsa_open_server(SERVERS, CRASHES, s);
+        tovridsa_server_answer opened = tovridsa_open_server(SERVERS, CRASHES, s, starts, SERVERS);
 
         accepted(opened.answer, "open a server");
         servers[s] = opened.server;
     }
-    tovridsa_desk_answer opened = tovridsa_open_desk(SERVERS, CRASHES, DESK);
+    tovridsa_desk_answer opened = tovridsa_open_desk(SERVERS, CRASHES, DESK, starts, SERVERS);
     accepted(opened.answer, "open a desk");
     tovridsa_desk desk = opened.desk;
 

@@ -7,8 +7,14 @@
 #include <inttypes.h>
 #include <stdio.h>
 
-/* A cluster of five servers, of which one may crash. */
+/* A cluster of five servers, of which one may crash. They start level, or server 0 is a strong one; all together weigh 5,000 either way. */
 enum { SERVERS = 5, CRASHES = 1 };
+
+static const uint64_t level[SERVERS] = {1000, 1000, 1000, 1000, 1000};
+static const uint64_t strong[SERVERS] = {2200, 700, 700, 700, 700};
+
+/* Start weights that may not be: 625 is the floor of 5,000, and not above it. */
+static const uint64_t at_floor[SERVERS] = {2500, 625, 625, 625, 625};
 
 /* A share from server 0 after it gave 200 to server 2. */
 static const uint8_t share[] = {0x00, 0x23, 0x03, 0x00, 0x00, 0x01, 0x00, 0x01, 0x00, 0x04, 0x00, 0x00, 0x00, 0xC8};
@@ -34,6 +40,8 @@ static const char *word(int refusal)
         return "light";
     case TOVRIDSA_LONG:
         return "long";
+    case TOVRIDSA_BAD_START:
+        return "bad start";
     default:
         return "?";
     }
@@ -59,21 +67,36 @@ static void show_margin(const char *servers, int64_t margin)
         printf("  no quorum: %" PRId64 " missing\n", -margin / 2 + 1);
 }
 
-/* The three questions about a message, in this cluster. */
+/* The three questions about a message, in the level cluster. */
 
 static int64_t check(const uint8_t *msg, size_t len)
 {
-    return tovridsa_check(SERVERS, CRASHES, msg, len);
+    return tovridsa_check(SERVERS, CRASHES, level, SERVERS, msg, len);
 }
 
 static int64_t weight(uint64_t server, const uint8_t *msg, size_t len)
 {
-    return tovridsa_weight(SERVERS, CRASHES, server, msg, len);
+    return tovridsa_weight(SERVERS, CRASHES, level, SERVERS, server, msg, len);
 }
 
 static int64_t quorum(uint64_t map, const uint8_t *msg, size_t len)
 {
-    return tovridsa_quorum(SERVERS, CRASHES, map, msg, len);
+    return tovridsa_quorum(SERVERS, CRASHES, level, SERVERS, map, msg, len);
+}
+
+/* The same messages in the cluster with a strong server. */
+static void show_strong(void)
+{
+    char question[64];
+
+    show("check the share, server 0 strong", tovridsa_check(SERVERS, CRASHES, strong, SERVERS, share, sizeof share));
+    for (uint64_t server = 0; server < SERVERS; server++) {
+        snprintf(question, sizeof question, "weight of server %" PRIu64, server);
+        show(question, tovridsa_weight(SERVERS, CRASHES, strong, SERVERS, server, share, sizeof share));
+    }
+    show_margin("servers 0 and 3", tovridsa_quorum(SERVERS, CRASHES, strong, SERVERS, 0x09, share, sizeof share));
+    show_margin("servers 1, 2 and 3", tovridsa_quorum(SERVERS, CRASHES, strong, SERVERS, 0x0E, share, sizeof share));
+    show("check the share that gave 375", tovridsa_check(SERVERS, CRASHES, strong, SERVERS, light, sizeof light));
 }
 
 int main(void)
@@ -93,12 +116,19 @@ int main(void)
     show("seats of the empty block", tovridsa_seats(NULL, 0));
 
     printf("\n");
+    show_strong();
+
+    printf("\n");
     show("check it without its last byte", check(share, sizeof share - 1));
     show("check an empty message", check(NULL, 0));
     show("check zeros", check(none, sizeof none));
-    show("check it for a cluster of two servers", tovridsa_check(2, 0, share, sizeof share));
+    show("check it for a cluster of two servers", tovridsa_check(2, 0, level, 2, share, sizeof share));
     show("check a share that gave too much", check(light, sizeof light));
-    show("check it for five servers of which three may crash", tovridsa_check(SERVERS, 3, share, sizeof share));
+    show("check it for five servers of which three may crash", tovridsa_check(SERVERS, 3, level, SERVERS, share, sizeof share));
+    show("check it with four start weights", tovridsa_check(SERVERS, CRASHES, level, SERVERS - 1, share, sizeof share));
+    show("check it without start weights", tovridsa_check(SERVERS, CRASHES, NULL, 0, share, sizeof share));
+    show("check it with start weights at the floor", tovridsa_check(SERVERS, CRASHES, at_floor, SERVERS, share, sizeof share));
+    show("check an empty message with these", tovridsa_check(SERVERS, CRASHES, at_floor, SERVERS, NULL, 0));
     show("weight of server 5", weight(5, share, sizeof share));
     show("weight of server 2^32", weight(UINT64_C(1) << 32, share, sizeof share));
     show("quorum of a map with bit 5", quorum(0x3F, share, sizeof share));

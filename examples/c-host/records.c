@@ -20,7 +20,7 @@ enum { RANDOM_CASES = 100000 };
 static uint64_t seed = 1;
 static uint64_t chance;
 static uint64_t calls, refusals;
-static uint64_t met[TOVRIDSA_LONG + 1]; /* how often each refusal was met */
+static uint64_t met[TOVRIDSA_BAD_START + 1]; /* how often each refusal was met */
 static const char *part = "";
 
 static _Noreturn void fail(int line, const char *what)
@@ -64,27 +64,66 @@ static uint64_t any_number(void)
 
 /* ---- the record test, which every call makes first */
 
-enum { START = 1000, MOST_SERVERS = 16, MOST_WEIGHT = START * MOST_SERVERS, MOST_VALUE = 64 };
+enum { MOST_SERVERS = 16, MOST_WEIGHT = 16000, MOST_VALUE = 64 };
 
-static bool config_fits(const tovridsa_config *config)
+static bool bounds_fit(uint64_t n, uint64_t f)
 {
-    return config->n >= 1 && config->n <= MOST_SERVERS && config->f < config->n && 2 * config->f < config->n;
+    return n >= 1 && n <= MOST_SERVERS && f < n && 2 * f < n;
 }
 
-static int64_t weight_of(const tovridsa_ledger *ledger, size_t server)
+/* What all servers weigh together. Start weights have 16 bits in a record, so this is no large number. */
+static int64_t total_of(const tovridsa_config *config)
 {
-    int64_t weight = START;
+    int64_t total = 0;
+
+    for (size_t s = 0; s < MOST_SERVERS; s++)
+        total += config->starts[s];
+    return total;
+}
+
+static bool above_floor(const tovridsa_config *config, int64_t weight)
+{
+    return weight * 2 * (int64_t)(config->n - config->f) > total_of(config);
+}
+
+/* n and f are within bounds, there are n start weights and zeros after them, at most 16,000 in all, and each of the n is above the floor. */
+static bool config_fits(const tovridsa_config *config)
+{
+    if (!bounds_fit(config->n, config->f) || total_of(config) > MOST_WEIGHT)
+        return false;
+    for (size_t s = 0; s < MOST_SERVERS; s++)
+        if (s < config->n ? !above_floor(config, config->starts[s]) : config->starts[s] != 0)
+            return false;
+    return true;
+}
+
+/* The start weights of a record as a list that a call takes, `starts_of(config), config.n`. */
+static const uint64_t *starts_of(const tovridsa_config *config)
+{
+    static uint64_t list[MOST_SERVERS];
+
+    for (size_t s = 0; s < MOST_SERVERS; s++)
+        list[s] = config->starts[s];
+    return list;
+}
+
+/* The check of a message by a record's cluster, or any refusal where that is none. */
+static int64_t check_by(const tovridsa_config *config, const uint8_t *msg, size_t len)
+{
+    size_t starts_len = config->n <= MOST_SERVERS ? (size_t)config->n : MOST_SERVERS;
+
+    return tovridsa_check(config->n, config->f, starts_of(config), starts_len, msg, len);
+}
+
+static int64_t weight_of(const tovridsa_config *config, const tovridsa_ledger *ledger, size_t server)
+{
+    int64_t weight = config->starts[server];
 
     for (size_t k = 0; k < MOST_SERVERS; k++) {
         weight += ledger->cells[MOST_SERVERS * k + server];
         weight -= ledger->cells[MOST_SERVERS * server + k];
     }
     return weight;
-}
-
-static bool above_floor(const tovridsa_config *config, int64_t weight)
-{
-    return weight * 2 * (int64_t)(config->n - config->f) > START * (int64_t)config->n;
 }
 
 /* A row has cells for other servers of the cluster, and its total lies from its count to 16,000 times that. */
@@ -108,7 +147,7 @@ static bool ledger_fits(const tovridsa_config *config, const tovridsa_ledger *le
         if (!row_fits(config, ledger, s))
             return false;
     for (size_t s = 0; s < config->n; s++)
-        if (!above_floor(config, weight_of(ledger, s)))
+        if (!above_floor(config, weight_of(config, ledger, s)))
             return false;
     return true;
 }
@@ -226,13 +265,13 @@ static int64_t refused(int number)
     return TOVRIDSA_REFUSED - number;
 }
 
-/* Any answer is a refusal from 1 to 14, or not below the least that the call tells. */
+/* Any answer is a refusal from 1 to 15, or not below the least that the call tells. */
 static void note_told(int64_t answer, int64_t least)
 {
     int number = tovridsa_refusal(answer);
 
     calls++;
-    CHECK(answer >= least || (answer <= refused(TOVRIDSA_BAD_HOUSE) && answer >= refused(TOVRIDSA_LONG)));
+    CHECK(answer >= least || (answer <= refused(TOVRIDSA_BAD_HOUSE) && answer >= refused(TOVRIDSA_BAD_START)));
     if (number != 0) {
         refusals++;
         met[number]++;
@@ -308,7 +347,7 @@ static int64_t try_writer(writer *write, const void *record, uint64_t server, co
     CHECK(room_kept(0, size));
     memcpy(whole, room + GUARD, size);
     if (expected == 0)
-        CHECK(tovridsa_check(config->n, config->f, whole, size) == 0);
+        CHECK(check_by(config, whole, size) == 0);
 
     int64_t end = write(record, server, fresh_room(place.len), place);
     note_answer(end);
@@ -342,7 +381,8 @@ static int64_t try_transfer(const tovridsa_server *server, uint64_t taker, uint6
         expected = refused(TOVRIDSA_BAD_TRANSFER);
     else if (server->replica.ledger.counts[server->number] == UINT16_MAX)
         expected = refused(TOVRIDSA_SPENT);
-    else if (amount > MOST_WEIGHT || !above_floor(&server->config, weight_of(&server->replica.ledger, server->number) - (int64_t)amount))
+    else if (amount > MOST_WEIGHT ||
+             !above_floor(&server->config, weight_of(&server->config, &server->replica.ledger, server->number) - (int64_t)amount))
         expected = refused(TOVRIDSA_THIN);
     CHECK(answer.answer == expected);
     if (expected == 0) {
@@ -356,7 +396,7 @@ static int64_t try_transfer(const tovridsa_server *server, uint64_t taker, uint6
 /* What serve refuses before it joins, or 0. */
 static int64_t serve_expected(const tovridsa_server *server, const struct message *m)
 {
-    int64_t check = tovridsa_check(server->config.n, server->config.f, m->bytes, m->length);
+    int64_t check = check_by(&server->config, m->bytes, m->length);
 
     if (!server_fits(server))
         return refused(TOVRIDSA_BAD_HOUSE);
@@ -390,7 +430,7 @@ static int64_t try_serve(const tovridsa_server *server, const struct message *m,
     CHECK((size > 0) == (whole.answer == 0 && m->bytes[KIND] == REQUEST));
     memcpy(reply, room + GUARD, size);
     if (size > 0) {
-        CHECK(tovridsa_check(server->config.n, server->config.f, reply, size) == 0);
+        CHECK(check_by(&server->config, reply, size) == 0);
         CHECK(reply[KIND] == REPLY && reply[SERVER] == server->number && memcmp(reply + DESK, m->bytes + DESK, 6) == 0);
     }
 
@@ -477,7 +517,7 @@ static int64_t try_ask(const tovridsa_desk *desk, uint64_t server, struct place 
 /* What hear refuses before it joins, or LATE, or 0. */
 static int64_t hear_expected(const tovridsa_desk *desk, const struct message *m)
 {
-    int64_t check = tovridsa_check(desk->config.n, desk->config.f, m->bytes, m->length);
+    int64_t check = check_by(&desk->config, m->bytes, m->length);
 
     if (!desk_fits(desk))
         return refused(TOVRIDSA_BAD_HOUSE);
@@ -542,11 +582,11 @@ static int64_t try_result(const tovridsa_desk *desk)
 /* Twice the weight of the servers that have answered, less that of all. */
 static int64_t margin_of(const tovridsa_desk *desk)
 {
-    int64_t margin = -START * (int64_t)desk->config.n;
+    int64_t margin = -total_of(&desk->config);
 
     for (size_t s = 0; s < desk->config.n; s++)
         if ((desk->operation.answered >> s & 1) != 0)
-            margin += 2 * weight_of(&desk->replica.ledger, s);
+            margin += 2 * weight_of(&desk->config, &desk->replica.ledger, s);
     return margin;
 }
 
@@ -661,17 +701,21 @@ static void carry_out(tovridsa_desk *desk, tovridsa_server *servers)
         visit(desk, &servers[s]);
 }
 
+static const uint64_t level[MOST_SERVERS] = {1000, 1000, 1000, 1000, 1000, 1000, 1000, 1000, 1000, 1000, 1000, 1000, 1000, 1000, 1000, 1000};
+static const uint64_t strong[5] = {2200, 701, 751, 699, 701};
+static const uint64_t least[1] = {1};
+
 /* A write and a read by two desks of a cluster, with gifts before and between. */
-static void play(uint64_t n, uint64_t f)
+static void play(uint64_t n, uint64_t f, const uint64_t *starts)
 {
     static const uint8_t map[] = {0xA0, 0x07, 0x00};
     tovridsa_server servers[MOST_SERVERS];
     tovridsa_desk desks[2];
 
     for (size_t s = 0; s < n; s++)
-        servers[s] = tovridsa_open_server(n, f, s).server;
+        servers[s] = tovridsa_open_server(n, f, s, starts, n).server;
     for (size_t d = 0; d < 2; d++)
-        desks[d] = tovridsa_open_desk(n, f, 7 + 1000 * d).desk;
+        desks[d] = tovridsa_open_desk(n, f, 7 + 1000 * d, starts, n).desk;
     desks[0] = tovridsa_begin_write(desks[0], 0xDEADBEEF, map, sizeof map).desk;
     visit(&desks[0], &servers[0]);
     if (n > 2)
@@ -714,10 +758,11 @@ static void keep_server_end(const struct server_sample *sample)
 static void gather(void)
 {
     part = "gathering samples";
-    play(1, 0);
-    play(2, 0);
-    play(5, 1);
-    play(16, 7);
+    play(1, 0, least);
+    play(2, 0, level);
+    play(5, 1, level);
+    play(5, 1, strong);
+    play(16, 7, level);
     keep_server_end(&server_samples[server_count - 1]);
     for (size_t k = 0, count = desk_count; k < count; k += 5)
         keep_desk_ends(&desk_samples[k]);
@@ -867,7 +912,7 @@ static void test_replies(void)
     }
     for (size_t k = 0; k < server_count; k++)
         for (size_t d = 0; d < desk_count; d++)
-            if (desk_samples[d].desk.config.n == server_samples[k].server.config.n)
+            if (memcmp(&desk_samples[d].desk.config, &server_samples[k].server.config, sizeof(tovridsa_config)) == 0)
                 CHECK(try_hear(&desk_samples[d].desk, &server_samples[k].message) == refused(TOVRIDSA_STRAY));
 }
 
@@ -899,7 +944,7 @@ static void test_places(void)
 static void test_nothing(void)
 {
     static const struct message none = {.length = 0};
-    tovridsa_desk desk = tovridsa_open_desk(5, 1, 1).desk;
+    tovridsa_desk desk = tovridsa_open_desk(5, 1, 1, level, 5).desk;
 
     part = "nothing";
     CHECK(try_hear(&desk, &none) == refused(TOVRIDSA_TORN));
@@ -907,31 +952,155 @@ static void test_nothing(void)
     CHECK(try_serve(&server_samples[0].server, &none, (struct place){0, 0}) == refused(TOVRIDSA_TORN));
     CHECK(try_share(&server_samples[0].server, (struct place){0, 0}) == refused(TOVRIDSA_NARROW));
     CHECK(try_ask(&desk_samples[0].desk, 0, (struct place){0, 0}) == refused(TOVRIDSA_NARROW));
-    CHECK(tovridsa_check(5, 1, NULL, 0) == refused(TOVRIDSA_TORN));
-    CHECK(tovridsa_weight(5, 1, 0, NULL, 0) == refused(TOVRIDSA_TORN));
-    CHECK(tovridsa_quorum(5, 1, 0, NULL, 0) == refused(TOVRIDSA_TORN));
+    CHECK(tovridsa_check(5, 1, level, 5, NULL, 0) == refused(TOVRIDSA_TORN));
+    CHECK(tovridsa_weight(5, 1, level, 5, 0, NULL, 0) == refused(TOVRIDSA_TORN));
+    CHECK(tovridsa_quorum(5, 1, level, 5, 0, NULL, 0) == refused(TOVRIDSA_TORN));
+    CHECK(tovridsa_check(5, 1, NULL, 0, NULL, 0) == refused(TOVRIDSA_BAD_START));
+    CHECK(tovridsa_weight(5, 1, NULL, 0, 0, NULL, 0) == refused(TOVRIDSA_BAD_START));
+    CHECK(tovridsa_quorum(5, 1, NULL, 0, 0, NULL, 0) == refused(TOVRIDSA_BAD_START));
+    CHECK(tovridsa_open_server(5, 1, 0, NULL, 0).answer == refused(TOVRIDSA_BAD_START));
+    CHECK(tovridsa_open_desk(5, 1, 1, NULL, 0).answer == refused(TOVRIDSA_BAD_START));
     CHECK(tovridsa_seats(NULL, 0) == 0);
 }
 
-static void test_open(uint64_t n, uint64_t f, uint64_t number)
+/* ---- openings */
+
+/* A list of start weights, which lies between numbers that no call may touch. */
+enum { MOST_STARTS = 40 };
+
+static uint64_t list_room[GUARD + MOST_STARTS + GUARD];
+
+static const uint64_t *lay_list(const uint64_t *starts, size_t len)
+{
+    memset(list_room, CANARY, sizeof list_room);
+    for (size_t k = 0; k < len; k++)
+        list_room[GUARD + k] = starts[k];
+    return len == 0 ? NULL : list_room + GUARD;
+}
+
+static bool list_kept(const uint64_t *starts, size_t len)
+{
+    for (size_t k = 0; k < len; k++)
+        if (list_room[GUARD + k] != starts[k])
+            return false;
+    return untouched((const uint8_t *)list_room, GUARD * sizeof list_room[0]) &&
+           untouched((const uint8_t *)(list_room + GUARD + len), (MOST_STARTS - len + GUARD) * sizeof list_room[0]);
+}
+
+/* The cluster that a list makes, and whether it makes one; n and f are within bounds. */
+static bool list_fits(uint64_t n, uint64_t f, const uint64_t *starts, size_t len, tovridsa_config *config)
+{
+    *config = (tovridsa_config){.n = n, .f = f};
+    if (len != n)
+        return false;
+    for (size_t s = 0; s < n; s++) {
+        if (starts[s] > MOST_WEIGHT)
+            return false;
+        config->starts[s] = (uint16_t)starts[s];
+    }
+    return config_fits(config);
+}
+
+/* What an opening answers, with a number that the party may have or may not. */
+static int64_t open_expected(uint64_t n, uint64_t f, bool number_fits, bool starts_fit)
+{
+    if (!bounds_fit(n, f) || !number_fits)
+        return refused(TOVRIDSA_BAD_HOUSE);
+    return starts_fit ? 0 : refused(TOVRIDSA_BAD_START);
+}
+
+static void test_open(uint64_t n, uint64_t f, uint64_t number, const uint64_t *starts, size_t len)
 {
     static const tovridsa_server no_server;
     static const tovridsa_desk no_desk;
-    tovridsa_config config = {n, f};
-    tovridsa_server_answer server = tovridsa_open_server(n, f, number);
-    tovridsa_desk_answer desk = tovridsa_open_desk(n, f, number);
+    static const uint8_t fresh_share[] = {0x00, 0x03, 0x03, 0x00};
+    tovridsa_config config = {.n = 0};
+    bool fit = bounds_fit(n, f) && list_fits(n, f, starts, len, &config);
+    int64_t of_server = open_expected(n, f, number < n, fit);
+    int64_t of_desk = open_expected(n, f, number >= 1 && number <= UINT16_MAX, fit);
+    int64_t of_message = open_expected(n, f, true, fit);
+
+    tovridsa_server_answer server = tovridsa_open_server(n, f, number, lay_list(starts, len), len);
+    note_answer(server.answer);
+    CHECK(server.answer == of_server && list_kept(starts, len));
+    tovridsa_desk_answer desk = tovridsa_open_desk(n, f, number, lay_list(starts, len), len);
+    note_answer(desk.answer);
+    CHECK(desk.answer == of_desk && list_kept(starts, len));
+
     tovridsa_server fresh_server = {.config = config, .number = number};
     tovridsa_desk fresh_desk = {.config = config, .number = number};
-    bool opens_server = config_fits(&config) && number < n;
-    bool opens_desk = config_fits(&config) && number >= 1 && number <= UINT16_MAX;
+    CHECK(same_server(&server.server, of_server == 0 ? &fresh_server : &no_server));
+    CHECK(same_desk(&desk.desk, of_desk == 0 ? &fresh_desk : &no_desk));
 
-    note_answer(server.answer);
-    CHECK(server.answer == (opens_server ? 0 : refused(TOVRIDSA_BAD_HOUSE)));
-    CHECK(same_server(&server.server, opens_server ? &fresh_server : &no_server));
-    note_answer(desk.answer);
-    CHECK(desk.answer == (opens_desk ? 0 : refused(TOVRIDSA_BAD_HOUSE)));
-    CHECK(same_desk(&desk.desk, opens_desk ? &fresh_desk : &no_desk));
-    CHECK(tovridsa_check(n, f, NULL, 0) == refused(config_fits(&config) ? TOVRIDSA_TORN : TOVRIDSA_BAD_HOUSE));
+    /* A message is looked at once the cluster is one. */
+    const uint64_t *list = lay_list(starts, len);
+    CHECK(tovridsa_check(n, f, list, len, NULL, 0) == (of_message == 0 ? refused(TOVRIDSA_TORN) : of_message));
+    CHECK(tovridsa_check(n, f, list, len, fresh_share, sizeof fresh_share) == of_message);
+    CHECK(tovridsa_weight(n, f, list, len, 0, fresh_share, sizeof fresh_share) == (of_message == 0 ? config.starts[0] : of_message));
+    CHECK(tovridsa_quorum(n, f, list, len, 0, fresh_share, sizeof fresh_share) == (of_message == 0 ? -total_of(&config) : of_message));
+    CHECK(list_kept(starts, len));
+}
+
+/* Changes a list of some length, of which there is one entry at least and room for one more. */
+static size_t disturb_list(uint64_t *starts, size_t len)
+{
+    size_t one = random_below(len);
+    uint64_t large = next_random() | UINT64_C(1) << 20;
+
+    switch (random_below(8)) {
+    case 0:
+        return len - 1;
+    case 1:
+        starts[len] = one_in(2) ? 0 : random_below(2000);
+        return len + 1;
+    case 2:
+        starts[one] = any_number();
+        break;
+    case 3: /* the sum is as before if it wraps */
+        starts[one] += large;
+        starts[(one + 1) % len] -= large;
+        break;
+    case 4:
+        starts[one] += random_below(16) * 1000;
+        break;
+    case 5:
+        starts[one] = random_below(1000);
+        break;
+    case 6:
+        starts[one] += UINT64_C(1) << (16 + random_below(48));
+        break;
+    default:
+        for (size_t s = 0; s < len; s++)
+            starts[s] = random_below(one_in(2) ? 3 : 2000);
+    }
+    return len;
+}
+
+/* Lists at their edges, and lists that are drawn. */
+static void test_lists(void)
+{
+    static const uint64_t pairs[][2] = {{299, 100}, {300, 100}, {1, 1}, {0, 0}, {8000, 8000}, {8000, 8001}, {11999, 4001}, {12000, 4000},
+                                        {UINT64_C(1) << 63, UINT64_C(1) << 63}, {UINT64_MAX, 17}, {UINT64_MAX, UINT64_MAX}};
+    static const uint64_t alone[] = {0, 1, 16000, 16001, 65535, 65536, 65537, UINT64_MAX};
+
+    part = "lists";
+    for (size_t k = 0; k < sizeof pairs / sizeof pairs[0]; k++)
+        for (size_t len = 0; len <= 2; len++)
+            test_open(2, 0, 1, pairs[k], len);
+    for (size_t k = 0; k < sizeof alone / sizeof alone[0]; k++)
+        test_open(1, 0, 0, &alone[k], 1);
+    for (size_t k = 0; k < RANDOM_CASES; k++) {
+        uint64_t starts[MOST_STARTS];
+        uint64_t n = 1 + random_below(MOST_SERVERS);
+        uint64_t f = random_below((size_t)(n + 1) / 2);
+        size_t len = (size_t)n;
+
+        for (size_t s = 0; s < len; s++)
+            starts[s] = one_in(2) ? 1000 : 900 + random_below(101);
+        if (!one_in(3))
+            len = disturb_list(starts, len);
+        test_open(one_in(16) ? any_number() : n, one_in(16) ? any_number() : f, one_in(8) ? any_number() : random_below(n), starts, len);
+    }
 }
 
 /* Numbers at and beyond the ends of their ranges, in every call that takes one. */
@@ -941,7 +1110,7 @@ static void test_numbers(void)
     for (size_t i = 0; i < NUMBERS; i++)
         for (size_t j = 0; j < NUMBERS; j++) {
             for (size_t k = 0; k < NUMBERS; k++)
-                test_open(numbers[i], numbers[j], numbers[k]);
+                test_open(numbers[i], numbers[j], numbers[k], level, numbers[i] <= MOST_SERVERS ? (size_t)numbers[i] : MOST_SERVERS);
             for (size_t k = 0; k < server_count; k += 7)
                 try_transfer(&server_samples[k].server, numbers[i], numbers[j]);
         }
@@ -987,7 +1156,7 @@ static void try_kinds_and_phases(const struct desk_sample *sample)
         }
 }
 
-/* Some servers, and of the cluster of five a desk in each mode and phase. */
+/* Some servers, and of the cluster of five with a strong server a desk in each mode and phase. */
 static void test_bits(void)
 {
     bool tried[TOVRIDSA_ENDED + 1][3] = {{false}};
@@ -999,7 +1168,7 @@ static void test_bits(void)
         const tovridsa_desk *desk = &desk_samples[k].desk;
         bool *done = &tried[desk->operation.mode][desk->operation.phase];
 
-        if (desk->config.n == 5 && !*done) {
+        if (desk->config.starts[0] == strong[0] && !*done) {
             *done = true;
             turn_desk_bits(&desk_samples[k]);
             try_kinds_and_phases(&desk_samples[k]);
@@ -1055,12 +1224,13 @@ int main(int argc, char **argv)
     test_places();
     test_nothing();
     test_numbers();
+    test_lists();
     test_bits();
     test_random();
     part = "the end";
-    for (int number = TOVRIDSA_BAD_HOUSE; number <= TOVRIDSA_LONG; number++)
+    for (int number = TOVRIDSA_BAD_HOUSE; number <= TOVRIDSA_BAD_START; number++)
         CHECK(met[number] > 0);
-    printf("records: seed %" PRIu64 ", %" PRIu64 " calls, of which %" PRIu64 " were refused; each number from 1 to 14 was met\n", seed, calls,
+    printf("records: seed %" PRIu64 ", %" PRIu64 " calls, of which %" PRIu64 " were refused; each number from 1 to 15 was met\n", seed, calls,
            refusals);
     return 0;
 }
