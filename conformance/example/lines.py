@@ -6,15 +6,15 @@
 import sys
 
 from desk import Desk, Operation
-from message import Cluster, Refused, read, refuse, weigh, write
+from message import Cluster, Refused, read, refuse, write
 from server import Server
 
 
 class House:
     """One cluster, with all its servers, and with desks as they are first named. A method for each step and question."""
 
-    def __init__(self, n, f):
-        self.cluster = Cluster(int(n), int(f))  # 1
+    def __init__(self, cluster):
+        self.cluster = cluster
         self.servers = [Server(self.cluster, number) for number in range(self.cluster.n)]
         self.desks = {}
 
@@ -69,8 +69,17 @@ class House:
         return f"desk {number} {pair_words(desk)} round {desk.round} operation {operation_words(desk)}"
 
 
+def cluster_of(words):
+    """The cluster that a line gives by N F [starts W,W,...], 1 or 15; and the words after it."""
+    n, f, *rest = words
+    if rest[:1] != ["starts"]:
+        return Cluster(int(n), int(f)), rest
+    starts = [] if rest[1] == "-" else [int(start) for start in rest[1].split(",")]
+    return Cluster(int(n), int(f), starts), rest[2:]
+
+
 def from_hex(words):
-    return b"" if words == ("-",) else bytes.fromhex("".join(words))
+    return b"" if list(words) == ["-"] else bytes.fromhex("".join(words))
 
 
 def to_hex(data):
@@ -85,16 +94,17 @@ def tag_words(register):
     return "{} {}".format(*register.tag)
 
 
-def weight_words(sheet):
-    return " ".join(str(weigh(sheet, server)) for server in range(len(sheet)))
+def weight_words(cluster, sheet):
+    return " ".join(str(cluster.weigh(sheet, server)) for server in range(cluster.n))
 
 
 def pair_words(party):
     cluster, (sheet, register) = party.cluster, party.pair
+    starts = ",".join(map(str, cluster.starts))
     counts = " ".join(str(row.count) for row in sheet)
     cells = [f"{i}>{j}:{cell}" for i, row in enumerate(sheet) for j, cell in enumerate(row.cells) if cell]
-    return (f"n {cluster.n} f {cluster.f} tag {tag_words(register)} value {to_hex(register.value)}"
-            f" weights {weight_words(sheet)} counts {counts} cells {' '.join(cells) or '-'}")
+    return (f"n {cluster.n} f {cluster.f} starts {starts} tag {tag_words(register)} value {to_hex(register.value)}"
+            f" weights {weight_words(cluster, sheet)} counts {counts} cells {' '.join(cells) or '-'}")
 
 
 def operation_words(desk):
@@ -125,16 +135,17 @@ def written_again(message, data):
     return buffer == b"\xaa" + data + b"\xaa" and fault(write, message, bytearray(len(data) - 1), 0) == 13
 
 
-def vector_words(n, f, *hex_words):
+def vector_words(words):
     """All that reader and writer make of a message, in a cluster of its own."""
-    cluster, data = Cluster(int(n), int(f)), from_hex(hex_words)
+    cluster, hex_words = cluster_of(words)  # 1, 15
+    data = from_hex(hex_words)
     message = read(cluster, data)
     sheet, register = message.pair
     cut = sum(fault(read, cluster, data[:length]) == 2 for length in range(len(data)))
     again = "same" if written_again(message, data) else "other"
     return (f"ok kind {message.kind} server {message.server} desk {message.desk} round {message.round}"
             f" tag {tag_words(register)} note {message.note} value {to_hex(register.value)}"
-            f" weights {weight_words(sheet)} cut {cut} of {len(data)}"
+            f" weights {weight_words(cluster, sheet)} cut {cut} of {len(data)}"
             f" longer {fault(read, cluster, data + bytes(1))} again {again}")
 
 
@@ -150,9 +161,9 @@ def main():
         command, *words = line.split()
         try:
             if command == "message":
-                answer = vector_words(*words)
+                answer = vector_words(words)
             elif command == "house":
-                house, answer = House(*words), "ok"
+                house, answer = House(cluster_of(words)[0]), "ok"
             else:
                 refuse(1, where=house is None)
                 answer = STEPS[command](house, *words)

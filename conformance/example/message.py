@@ -9,6 +9,7 @@ from collections import namedtuple
 MAX_16 = 65_535
 MAX_32 = 4_294_967_295
 MAX_VALUE = 64
+MAX_WEIGHT = 16_000  # of all servers together
 REQUEST, REPLY, SHARE = 1, 2, 3
 DESK, ROUND, REGISTER, SHEET, NOTE = 4, 8, 16, 32, 64  # bits 2 to 6 of a message's map
 
@@ -35,29 +36,32 @@ def refuse(number, where):
 
 
 class Cluster:
-    """n servers, of which f may crash, and what follows from that for a sheet."""
+    """n servers, of which f may crash, what each weighs at the start, and what follows from that for a sheet."""
 
-    def __init__(self, n, f):
+    def __init__(self, n, f, starts=None):
+        """Without start weights the cluster is level."""
         refuse(1, where=not (1 <= n <= 16 and 0 <= 2 * f < n))
         self.n = n
         self.f = f
-        self.all_weight = 1_000 * n
+        self.starts = [1_000] * n if starts is None else starts
+        self.all_weight = sum(self.starts)
+        refuse(15, where=len(self.starts) != n or self.all_weight > MAX_WEIGHT)
+        refuse(15, where=not all(map(self.above_floor, self.starts)))
         self.fresh_pair = Pair((Row(0, (0,) * n),) * n, START)
 
     def above_floor(self, weight):
         return weight * 2 * (self.n - self.f) > self.all_weight
 
+    def weigh(self, sheet, server):
+        """A server's weight by a sheet: what it started with and what it received, less what it gave."""
+        return self.starts[server] + sum(row.cells[server] for row in sheet) - sum(sheet[server].cells)
+
     def is_light(self, sheet):
-        return not all(self.above_floor(weigh(sheet, server)) for server in range(self.n))
+        return not all(self.above_floor(self.weigh(sheet, server)) for server in range(self.n))
 
     def margin(self, sheet, servers):
         """Twice the weight of some servers, less that of all: above 0 they are a quorum."""
-        return 2 * sum(weigh(sheet, server) for server in servers) - self.all_weight
-
-
-def weigh(sheet, server):
-    """A server's weight by a sheet: 1,000 and what it received, less what it gave."""
-    return 1_000 + sum(row.cells[server] for row in sheet) - sum(sheet[server].cells)
+        return 2 * sum(self.weigh(sheet, server) for server in servers) - self.all_weight
 
 
 def rows_agree(one, other):

@@ -1,6 +1,6 @@
 """A server: "What a server does" of FORMAT.md. The refusals of a call stand in the page's order."""
 
-from message import MAX_16, REPLY, REQUEST, SHARE, Message, Row, join, read, refuse, weigh, write
+from message import MAX_16, REPLY, REQUEST, SHARE, Message, Row, join, read, refuse, write
 
 
 class Server:
@@ -30,7 +30,7 @@ class Server:
         count, cells = rows[own].count, list(rows[own].cells)
         refuse(11, where=taker == own or taker >= self.cluster.n or amount == 0)
         refuse(12, where=count == MAX_16)
-        refuse(10, where=not self.cluster.above_floor(weigh(rows, own) - amount))
+        refuse(10, where=not self.cluster.above_floor(self.cluster.weigh(rows, own) - amount))
         cells[taker] += amount
         rows[own] = Row(count + 1, tuple(cells))
         self.pair = self.pair._replace(sheet=tuple(rows))
