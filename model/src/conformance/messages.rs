@@ -15,7 +15,7 @@ use crate::place::Place;
 use crate::random::{bad_cluster, Random};
 use crate::runs::pace::pairs;
 use crate::starts::{config_of, uneven, unlawful};
-use crate::weights::Config;
+use crate::weights::{level, Config};
 use crate::write::write;
 
 /// How long a message is that is drawn; a few are longer.
@@ -270,7 +270,10 @@ fn any() -> Vec<Line> {
     let cases = (0..).map(|number| Case::draw(SEED, number));
     let short = cases.filter(|case| case.message.len() <= SHORT);
     let lines = short.map(|case| {
-        let house = House::with_starts(case.n, case.f, case.starts);
+        let house = match case.starts == level(case.n) {
+            true => House::level(case.n, case.f),
+            false => House::with_starts(case.n, case.f, case.starts),
+        };
         line(house, case.message)
     });
     lines.take(CASES).collect()

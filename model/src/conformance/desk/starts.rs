@@ -30,6 +30,9 @@ pub fn operations() -> Vec<Line> {
             one.record();
         }
         one.result();
+        // It has ended: there is nothing to ask for and nothing to drop.
+        one.ask(0);
+        one.abandon();
         lines.extend(one.lines);
     }
     lines
@@ -44,9 +47,11 @@ pub fn strong() -> Vec<Line> {
         one.hear(&one.reply(server, 1));
         one.margin();
     }
+    one.write(&[0x2A], 0);
     one.record();
     one.hear(&one.reply(3, 1));
     one.margin();
+    one.read(9);
     one.hear(&one.reply(0, 2));
     one.margin();
     one.hear(&one.reply(3, 2));
