@@ -4,22 +4,24 @@ use native.Mathlib.Nat.{add-mul, div-lt-iff-lt-mul, div-le-self, lt-of-mul-lt-mu
 use native.Mathlib.Omega.{arith}
 use mathlib.Core.Path.{_≡_, refl, sym, ap, _∙_}
 use mathlib.Core.Logic.{⊎-elim}
-use mathlib.Core.Bool.{Bool, true, false, cond, not}
+use mathlib.Core.Bool.{Bool, true, false, cond, not, false≢true}
 use borrow.Author.Tests.{le-leb, leb-true, lt-ltb, le-ltb, ltb-true, lt-leb, eq-eqb, ne-eqb, eqb-true}
 use lib.Dec.{leb, ltb, eqb}
 use lib.IntN.{ℤ, pos, negsuc}
 use lib.Signed.{ltZ}
 use Rattle.quorums.specs.Difference.{difference}
 use Rattle.quorums.specs.Sum.{sum, all}
-use Rattle.quorums.proofs.Sums.{sum-const, sum-rest, sum-extend, all-each, each-all}
-use Rattle.quorums.proofs.Tests.{le-or-lt, ltb-same, leb-not, one-test, both, chosen-first}
+use Rattle.quorums.proofs.Sums.{sum-const, sum-rest, sum-same, sum-extend, all-each, each-all, all-same}
+use Rattle.quorums.proofs.Tests.{le-or-lt, ltb-same, leb-not, test-false, both, chosen-first}
 use Rattle.quorums.proofs.Differences.{pos-difference, difference-down}
 use Rattle.quorums.proofs.Weights.{above-is}
 use Rattle.config.specs.declared.cluster.Config.{Config}
 use Rattle.config.specs.Refusals.{refusal}
 use Rattle.config.specs.declared.answer.Refusal.{Refusal}
 use Rattle.config.specs.declared.answer.Number.{Number}
-use Rattle.config.specs.Cluster.{validOf, lawfulOf, endsOf, startsAbove, startFits, clusterFault, serverOf, startOf, totalOf, aboveOf, leastOf}
+use Rattle.config.specs.Cluster.{validOf, lawfulOf, endsOf, startsAbove, clusterFault, whyOf, serverOf, startOf, totalOf, aboveOf, leastOf}
+use Rattle.config.specs.declared.cluster.First.{First}
+use Rattle.config.specs.Firsts.{Firsts}
 use Rattle.config.specs.Answers.{judged, totalAnswer, leastAnswer}
 
 -- ---- validity
@@ -147,13 +149,14 @@ pub least-small : (c : Config) → lawfulOf c ≡ true → leastOf c ≤ 16001
 unfolding leastOf
 least-small c v = omega (arith, div-le-self (totalOf c) (2 * (c .n - c .f)), total-small c v)
 
--- ---- the test of 16 start weights at once
+-- ---- the tests of the start weights, by sums and by the least of them
 
 -- whether the start weight at i is 0, from n on
 abbrev endAt : Config → ℕ → Bool
 endAt c i = cond (ltb i (c .n)) true (eqb (startOf c i) 0)
 
--- Where those from n on are 0, W is the sum of all 16.
+-- Those from n on are 0 exactly where the sum of all 16 is W.
+
 pub total-all : (c : Config) → validOf c ≡ true → endsOf c ≡ true → sum 16 (startOf c) ≡ totalOf c
 unfolding endsOf totalOf
 total-all c v e =
@@ -165,48 +168,37 @@ total-all c v e =
     let here = all-each 16 (endAt c) e i (omega arith) in
     eqb-true (startOf c i) 0 (rw (le-ltb i (c .n) from) at here))
 
--- the tests of 16 start weights, of which S is the sum
-abbrev pub fitAt : Config → ℕ → ℕ → Bool
-fitAt c S i = startFits (startOf c i) i (c .n) (S / (2 * (c .n - c .f)) + 1)
+-- the start weights of the n servers, and nothing beyond them
+abbrev firstOnly : Config → ℕ → ℕ
+firstOnly c i = cond (ltb i (c .n)) (startOf c i) 0
 
-abbrev pub allFit : Config → ℕ → Bool
-allFit c S = cond (leb S 16000) (all 16 (fitAt c S)) false
+first-sum : (c : Config) → validOf c ≡ true → sum 16 (firstOnly c) ≡ totalOf c
+unfolding totalOf
+first-sum c v =
+    let most = valid-bounds c v .most in
+    let k : c .n + (16 - c .n) ≡ 16 = omega arith in
+    ap (λ m. sum m (firstOnly c)) (sym k)
+    ∙ sum-extend (c .n) (16 - c .n) (firstOnly c) (λ i from to. rw (le-ltb i (c .n) from) refl)
+    ∙ sum-same (c .n) (firstOnly c) (startOf c) (λ i l. rw (lt-ltb i (c .n) l) refl)
 
--- They are passed by exactly the lawful ones: those from n on are 0, so that S is W.
-pub lawful-fit : (c : Config) → validOf c ≡ true → allFit c (sum 16 (startOf c)) ≡ lawfulOf c
-unfolding startFits endsOf startsAbove leastOf
-lawful-fit c v = one-test (allFit c S) (lawfulOf c) to from
+first-below : (b : Bool) (x : ℕ) → cond b x 0 ≤ x
+first-below true x = omega arith
+first-below false x = omega arith
+
+pub all-total : (c : Config) → validOf c ≡ true → sum 16 (startOf c) ≡ totalOf c → endsOf c ≡ true
+unfolding endsOf
+all-total c v e = each-all 16 (endAt c) (λ i l. ⊎-elim (λ (h : c .n ≤ i). beyond i h l) (λ (h : i < c .n). rw (lt-ltb i (c .n) h) refl) (le-or-lt (c .n) i))
   where
-    S : ℕ
-    S = sum 16 (startOf c)
+    beyond : (i : ℕ) → c .n ≤ i → i < 16 → endAt c i ≡ true
+    beyond i h l =
+        let none : firstOnly c i ≡ 0 = rw (le-ltb i (c .n) h) refl in
+        let more = sum-rest 16 (firstOnly c) (startOf c) (λ k m. first-below (ltb k (c .n)) (startOf c k)) i l in
+        rw (le-ltb i (c .n) h) (eq-eqb (startOf c i) 0 (omega (arith, more, first-sum c v, e, none)))
 
-    to : allFit c S ≡ true → lawfulOf c ≡ true
-    to e =
-        let x = both (leb S 16000) (all 16 (fitAt c S)) e in
-        let each = all-each 16 (fitAt c S) (x .1) in
-        let ends : endsOf c ≡ true =
-        each-all 16 (endAt c)
-        (λ i l.
-        ⊎-elim (λ (h : c .n ≤ i). let here = each i l in rw (le-ltb i (c .n) h) (rw (le-ltb i (c .n) h) at here))
-        (λ (h : i < c .n). rw (lt-ltb i (c .n) h) refl)
-        (le-or-lt (c .n) i)) in
-        let same = total-all c v ends in
-        let above : (i : ℕ) → i < c .n → aboveOf c (pos (startOf c i)) ≡ true =
-        λ i l. let here = each i (omega (arith, valid-bounds c v .most)) in start-least c i v ∙ (rw (lt-ltb i (c .n) l, same) at here) in
-        told-lawful c (record { valid = v; ends = ends; small = omega (arith, leb-true S 16000 (x .0), same); each-above = each-all (c .n) _ above })
-
-    from : lawfulOf c ≡ true → allFit c S ≡ true
-    from e =
-        let l = lawful-told c e in
-        let same = total-all c v (l .ends) in
-        let few : S ≤ 16000 = omega (arith, same, l .small) in
-        let each : (i : ℕ) → i < 16 → fitAt c S i ≡ true =
-        λ i h.
-        ⊎-elim (λ (b : c .n ≤ i). let here = all-each 16 (endAt c) (l .ends) i h in rw (le-ltb i (c .n) b) (rw (le-ltb i (c .n) b) at here))
-        (λ (b : i < c .n).
-        rw (lt-ltb i (c .n) b, same) (sym (start-least c i v) ∙ all-each (c .n) (λ k. aboveOf c (pos (startOf c k))) (l .each-above) i b))
-        (le-or-lt (c .n) i) in
-        rw (le-leb S 16000 few) (each-all 16 (fitAt c S) each)
+-- Each of the n is above the floor exactly where the least of them is no less than the least weight.
+pub starts-least : (c : Config) → validOf c ≡ true → startsAbove c ≡ all (c .n) (λ i. leb (leastOf c) (startOf c i))
+unfolding startsAbove
+starts-least c v = all-same (c .n) _ _ (λ i l. start-least c i v)
 
 -- ---- answers
 
@@ -278,6 +270,15 @@ fault-some c e = by-valid (validOf c)
     by-valid true = rw e (omega arith, omega arith)
     by-valid false = (omega arith, omega arith)
 
+-- why a cluster is refused is its fault
+pub why-fault : (c : Config) → lawfulOf c ≡ false → whyOf c ≡ refusal (clusterFault c)
+unfolding clusterFault
+why-fault c e = by-valid (validOf c)
+  where
+    by-valid : (t : Bool) → cond t (refusal 15) (refusal 1) ≡ refusal (cond t (cond (lawfulOf c) 0 15) 1)
+    by-valid true = rw e refl
+    by-valid false = refl
+
 -- 1 for n and f, and 15 for the start weights
 pub fault-first : (c : Config) → validOf c ≡ false → clusterFault c ≡ 1
 unfolding clusterFault
@@ -294,26 +295,57 @@ fault-lawful c = by-lawful (lawfulOf c) refl
     by-lawful true e = eq-eqb (clusterFault c) 0 (fault-none c e)
     by-lawful false e = ne-eqb (clusterFault c) 0 (λ z. omega (arith, z, fault-some c e .0))
 
--- ---- the least weight from the sum of 16
+-- ---- the least weight from what is found of the first n
 
-module _ (c : Config) (S : ℕ) (is : S ≡ sum 16 (startOf c)) (v : validOf c ≡ true) where
-  fit : lawfulOf c ≡ allFit c S
-  fit = sym (lawful-fit c v) ∙ ap (allFit c) (sym is)
+module _ (c : Config) (v : validOf c ≡ true) (first : First) (f : Firsts (c .starts) (c .n) first) where
+  total-found : first .total ≡ totalOf c
+  unfolding totalOf startOf
+  total-found = f .total-is
 
-  pub least-over : 16000 < S → Number.Refused (refusal 15) ≡ leastAnswer c
+  pub least-beyond : (sum 16 (startOf c) ≡ first .total → ⊥) → Number.Refused (refusal 15) ≡ leastAnswer c
   unfolding leastAnswer
-  least-over l = let no : lawfulOf c ≡ false = fit ∙ rw (lt-leb S 16000 l) refl in rw (v, no) refl
+  least-beyond ne =
+      let no : lawfulOf c ≡ false = test-false (lawfulOf c) (λ l. ne (total-all c v (lawful-told c l .ends) ∙ sym total-found)) in
+      rw (v, no) refl
 
-  pub least-unfit : S ≤ 16000 → all 16 (fitAt c S) ≡ false → Number.Refused (refusal 15) ≡ leastAnswer c
+  pub least-over : 16000 < first .total → Number.Refused (refusal 15) ≡ leastAnswer c
   unfolding leastAnswer
-  least-unfit l e = let no : lawfulOf c ≡ false = fit ∙ rw (le-leb S 16000 l, e) refl in rw (v, no) refl
+  least-over h =
+      let no : lawfulOf c ≡ false = test-false (lawfulOf c) (λ l. omega (arith, h, total-found, lawful-told c l .small)) in
+      rw (v, no) refl
 
-  pub least-fit : S ≤ 16000 → all 16 (fitAt c S) ≡ true → Number.Value (S / (2 * (c .n - c .f)) + 1) ≡ leastAnswer c
-  unfolding leastAnswer leastOf
-  least-fit l e =
-      let yes : lawfulOf c ≡ true = fit ∙ rw (le-leb S 16000 l, e) refl in
-      let total : S ≡ totalOf c = is ∙ total-all c v (lawful-told c yes .ends) in
-      rw (v, yes, total) refl
+  -- the least of them, beside the least weight
+  lowest-above : leastOf c ≤ 65535 → startsAbove c ≡ leb (leastOf c) (first .lowest)
+  unfolding startOf
+  lowest-above s = starts-least c v ∙ sym (f .lowest-is (leastOf c) s)
+
+  module _ (all-are : sum 16 (startOf c) ≡ first .total) (few : first .total ≤ 16000) where
+    least-is : first .total / (2 * (c .n - c .f)) + 1 ≡ leastOf c
+    unfolding leastOf
+    least-is = ap (λ x. x / (2 * (c .n - c .f)) + 1) total-found
+
+    low : leastOf c ≤ 65535
+    low = omega (arith, least-is, few, div-le-self (first .total) (2 * (c .n - c .f)))
+
+    pub least-under : first .lowest < first .total / (2 * (c .n - c .f)) + 1 → Number.Refused (refusal 15) ≡ leastAnswer c
+    unfolding leastAnswer
+    least-under h =
+        let out : startsAbove c ≡ false = lowest-above low ∙ lt-leb (leastOf c) (first .lowest) (omega (arith, h, least-is)) in
+        let no : lawfulOf c ≡ false = test-false (lawfulOf c) (λ l. false≢true (sym out ∙ lawful-told c l .each-above)) in
+        rw (v, no) refl
+
+    pub least-fit : first .total / (2 * (c .n - c .f)) + 1 ≤ first .lowest → Number.Value (first .total / (2 * (c .n - c .f)) + 1) ≡ leastAnswer c
+    unfolding leastAnswer
+    least-fit h =
+        let yes : lawfulOf c ≡ true =
+        told-lawful c
+        (record {
+          valid = v;
+          ends = all-total c v (all-are ∙ total-found);
+          small = omega (arith, total-found, few);
+          each-above = lowest-above low ∙ le-leb (leastOf c) (first .lowest) (omega (arith, h, least-is));
+        }) in
+        rw (v, yes, least-is) refl
 
 -- W is the sum of 16 too
 pub total-sum : (c : Config) → lawfulOf c ≡ true → sum 16 (startOf c) ≡ totalOf c

@@ -3,3 +3,4 @@ pub mod Refusals
 pub mod Clusters
 pub mod Houses
 mod Filled
+mod Lowest

@@ -10,6 +10,12 @@ use Rattle.quorums.specs.Sum.{sum, all}
 use Rattle.quorums.specs.Tables.{table}
 use Rattle.quorums.specs.Accounts.{above}
 use Rattle.config.specs.declared.cluster.Config.{Config}
+use Rattle.config.specs.declared.answer.Refusal.{Refusal}
+use Rattle.config.specs.Refusals.{refusal}
+
+-- a cluster by its parts
+abbrev pub clusterOf : ℕ → ℕ → List ℕ → Config
+clusterOf n f starts = record { n = n; f = f; starts = starts }
 
 -- 1 ≤ n ≤ 16 and 2f < n
 abbrev pub inBounds : ℕ → ℕ → Bool
@@ -63,13 +69,13 @@ startsAbove c = all (c .n) (λ i. aboveOf c (pos (startOf c i)))
 unfoldable pub lawfulOf : Config → Bool
 lawfulOf c = cond (validOf c) (cond (endsOf c) (cond (leb (totalOf c) mostWeight) (startsAbove c) false) false) false
 
--- one of 16 start weights, by the least weight above the floor: the first n are no less, and the others are 0
-unfoldable pub startFits : ℕ → ℕ → ℕ → ℕ → Bool
-startFits start i n least = cond (ltb i n) (leb least start) (eqb start 0)
-
 -- What is wrong with a cluster: 1 for n and f, 15 for the start weights, 0 for nothing.
 unfoldable pub clusterFault : Config → ℕ
 clusterFault c = cond (validOf c) (cond (lawfulOf c) 0 15) 1
+
+-- why a cluster is refused that is not lawful
+abbrev pub whyOf : Config → Refusal
+whyOf c = cond (validOf c) (refusal 15) (refusal 1)
 
 -- ---- what a call is given: n, f and a list
 

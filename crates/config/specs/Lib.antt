@@ -1,4 +1,5 @@
--- Definitions: the refusals and their numbers, the cluster, and what the calls on it answer.
+-- Definitions: the refusals and their numbers, the cluster, what the calls on it answer, and what a function finds on the way.
 pub mod Refusals
 pub mod Cluster
 pub mod Answers
+pub mod Firsts

@@ -3,13 +3,14 @@ use super::answer::Decision;
 use super::answer::Number;
 use super::answer::Refusal;
 ghost use mathlib.Core.Path.{_≡_};
-ghost use mathlib.Core.Bool.{cond, not, false};
-ghost use Prim.Native.Nat.{_≤_};
+ghost use mathlib.Core.Bool.{not, true};
+ghost use Prim.Native.Nat.{_≤_, min};
 ghost use lib.IntN.{pos};
 ghost use lib.Signed.{ltZ};
 ghost use lib.ListN.{length, getD};
-ghost use Rattle.quorums.specs.Sum.{sum, all};
-ghost use Rattle.config.specs.Cluster.{validOf, serverOf, startOf, lawfulOf, clusterFault, startFits, stampBytes, mostStamp};
+ghost use Rattle.quorums.specs.Sum.{sum};
+ghost use Rattle.config.specs.Cluster.{validOf, serverOf, startOf, lawfulOf, clusterFault, whyOf, clusterOf, stampBytes, mostStamp};
+ghost use Rattle.config.specs.Firsts.{Firsts};
 ghost use Rattle.config.specs.Answers.{decide, startAnswer, totalAnswer, leastAnswer, aboveAnswer};
 
 // Servers 0 to n - 1, of which f may crash, and what each weighs at the start: n start weights, then zeros.
@@ -111,7 +112,7 @@ impl Config {
         ensures { λ r. ⌜ r ≡ totalAnswer self ⌝ }
     {
         match self.least() {
-            Number::Value(_) => Number::Value(sum_of(&self.starts)),
+            Number::Value(_) => Number::Value(sum_of(&self.starts) as u64),
             Number::Refused(r) => Number::Refused(r),
         }
     }
@@ -123,15 +124,17 @@ impl Config {
         if !self.valid() {
             return Number::Refused(Refusal::BadHouse);
         }
-        let total = sum_of(&self.starts);
-        if MOST_WEIGHT < total {
-            return Number::Refused(Refusal::BadStart);
+        least_in(self.n, self.f, &self.starts)
+    }
+
+    // Why a cluster is refused that is not lawful: 1 for n and f, 15 for the start weights.
+    pub fn refusal(self) -> Refusal
+        ensures { λ r. ⌜ r ≡ whyOf self ⌝ }
+    {
+        if self.valid() {
+            return Refusal::BadStart;
         }
-        let least = total / (2 * (self.n - self.f)) + 1;
-        if !starts_fit(&self.starts, self.n as u16, least as u16) {
-            return Number::Refused(Refusal::BadStart);
-        }
-        Number::Value(least)
+        Refusal::BadHouse
     }
 
     // Whether a weight is above the floor: weight × 2 × (n − f) > W.
@@ -167,8 +170,59 @@ fn start_in(starts: &[u16], server: u64) -> u64
     wide(starts[server as usize]) as u64
 }
 
-// The sum of 16 start weights. It looks at all of them, so that a compiler can add several at once.
-fn sum_of(starts: &[u16]) -> u64
+// The least weight above the floor of n servers, of which f may crash, by their start weights: 15 where these are not lawful.
+fn least_in(n: u64, f: u64, starts: &[u16]) -> Number
+    requires { ⌜ (length (now starts) ≡ 16) × (validOf (clusterOf n f (now starts)) ≡ true) ⌝ }
+    ensures { λ r. ⌜ r ≡ leastAnswer (clusterOf n f (now (starts .entry))) ⌝ }
+{
+    let first = first_of(starts, n as usize);
+    if sum_of(starts) != first.total {
+        return Number::Refused(Refusal::BadStart);
+    }
+    if MOST_WEIGHT < first.total as u64 {
+        return Number::Refused(Refusal::BadStart);
+    }
+    let least = (first.total as u64) / (2 * (n - f)) + 1;
+    if (first.lowest as u64) < least {
+        return Number::Refused(Refusal::BadStart);
+    }
+    Number::Value(least)
+}
+
+// The sum and the least of the first n of 16 start weights.
+struct First {
+    pub total: u32,
+    pub lowest: u32,
+}
+
+fn first_of(starts: &[u16], n: usize) -> First
+    requires { ⌜ (length (now starts) ≡ 16) × (n ≤ 16) ⌝ }
+    ensures { λ r. ⌜ Firsts (now (starts .entry)) n r ⌝ }
+{
+    let mut total: u32 = 0;
+    let mut lowest: u32 = 65535;
+    let mut i: usize = 0;
+    while i < n {
+        let start = wide(starts[i]);
+        total += start;
+        lowest = lower(start, lowest);
+        i += 1;
+    }
+    First { total, lowest }
+}
+
+fn lower(a: u32, b: u32) -> u32
+    ensures { λ r. ⌜ r ≡ min a b ⌝ }
+{
+    if a < b {
+        return a;
+    }
+    b
+}
+
+// The sum of all 16 start weights, which is that of the first n where there is nothing after them. It looks at all of them, so that a compiler can add
+// several at once.
+fn sum_of(starts: &[u16]) -> u32
     requires { ⌜ length (now starts) ≡ 16 ⌝ }
     ensures { λ r. ⌜ (r ≡ sum 16 (λ i. getD (now (starts .entry)) i 0)) × (r ≤ 1048560) ⌝ }
 {
@@ -178,40 +232,7 @@ fn sum_of(starts: &[u16]) -> u64
         total += wide(starts[i]);
         i += 1;
     }
-    total as u64
-}
-
-// Whether the first n of 16 start weights are no less than the least weight above the floor, and those after them 0. It looks at all of them.
-fn starts_fit(starts: &[u16], n: u16, least: u16) -> bool
-    requires { ⌜ length (now starts) ≡ 16 ⌝ }
-    ensures { λ r. ⌜ r ≡ all 16 (λ i. startFits (getD (now (starts .entry)) i 0) i n least) ⌝ }
-{
-    let mut fits = true;
-    let mut i: u16 = 0;
-    while i < 16 {
-        fits = both(start_fits(starts[i as usize], i, n, least), fits);
-        i += 1;
-    }
-    fits
-}
-
-fn start_fits(start: u16, i: u16, n: u16, least: u16) -> bool
-    ensures { λ r. ⌜ r ≡ startFits start i n least ⌝ }
-{
-    if i < n {
-        return least <= start;
-    }
-    start == 0
-}
-
-// Two tests, of which the second is made in any case.
-fn both(first: bool, second: bool) -> bool
-    ensures { λ r. ⌜ r ≡ cond first second false ⌝ }
-{
-    if first {
-        return second;
-    }
-    false
+    total
 }
 
 // A number at a wider type, with its bound.

@@ -51,11 +51,8 @@ fn check_held<'a>(counts: &'a [u16; 16], cells: &'a [u32; 256], config: Config) 
 pub fn check_lent(counts: &[u16; 16], cells: &[u32; 256], config: Config) -> Verdict
     ensures { λ r. ⌜ r ≡ checkAnswer config (ledgerOf (now (counts .entry)) (now (cells .entry))) ⌝ }
 {
-    if !config.valid() {
-        return Verdict::Refused(Refusal::BadHouse);
-    }
     let Number::Value(least) = config.least() else {
-        return Verdict::Refused(Refusal::BadStart);
+        return Verdict::Refused(config.refusal());
     };
     let mut received: [u64; 16] = [0; 16];
     let mut given: [u64; 16] = [0; 16];
@@ -86,11 +83,8 @@ pub(crate) fn floor(cells: &[u32], config: Config) -> Verdict
     requires { ⌜ length (now cells) ≡ 256 ⌝ }
     ensures { λ r. ⌜ r ≡ floorAnswer config (ledgerOf [] (now (cells .entry))) ⌝ }
 {
-    if !config.valid() {
-        return Verdict::Refused(Refusal::BadHouse);
-    }
     let Number::Value(least) = config.least() else {
-        return Verdict::Refused(Refusal::BadStart);
+        return Verdict::Refused(config.refusal());
     };
     if !above_floor(cells, config, least) {
         return Verdict::Refused(Refusal::Light);

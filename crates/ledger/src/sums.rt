@@ -34,11 +34,8 @@ pub struct Weighed {
 pub fn weigh_lent(counts: &[u16; 16], cells: &[u32; 256], config: Config, map: u16) -> Weighed
     ensures { λ r. ⌜ r ≡ weighedOf config (ledgerOf (now (counts .entry)) (now (cells .entry))) map ⌝ }
 {
-    if !config.valid() {
-        return unweighed(Refusal::BadHouse);
-    }
     let Number::Value(least) = config.least() else {
-        return unweighed(Refusal::BadStart);
+        return unweighed(config.refusal());
     };
     let mut received: [u64; 16] = [0; 16];
     let mut given: [u64; 16] = [0; 16];
@@ -218,7 +215,7 @@ fn above(config: Config, least: u64, received: &[u64], given: &[u64]) -> bool
     let n = config.n as usize;
     let mut i: usize = 0;
     while i < n {
-        if config.start_at(i as u64) + received[i] < given[i] + least {
+        if wide16(config.starts[i]) + received[i] < given[i] + least {
             return false;
         }
         i += 1;
@@ -237,7 +234,7 @@ fn margin_of(config: Config, received: &[u64], given: &[u64], map: u16) -> i64
     let mut gave: u64 = 0;
     let mut i: usize = 0;
     while i < n {
-        let start = config.start_at(i as u64);
+        let start = wide16(config.starts[i]);
         total += start;
         if names(map, i as u64) {
             held = held + start + received[i];

@@ -27,11 +27,8 @@ ghost use Rattle.reader.specs.Weighings.{weightIn, quorumIn};
 pub fn check(config: Config, msg: &[u8]) -> Verdict
     ensures { λ r. ⌜ r ≡ checkAnswer config (now (msg .entry)) ⌝ }
 {
-    if !config.valid() {
-        return Verdict::Refused(Refusal::BadHouse);
-    }
     let Number::Value(least) = config.least() else {
-        return Verdict::Refused(Refusal::BadStart);
+        return Verdict::Refused(config.refusal());
     };
     let mut received: [u64; 16] = [0; 16];
     let mut given: [u64; 16] = [0; 16];
@@ -77,11 +74,8 @@ pub fn receive_lent(
 {
     *counts = [0; 16];
     *cells = [0; 256];
-    if !config.valid() {
-        return untaken(Refusal::BadHouse);
-    }
     let Number::Value(least) = config.least() else {
-        return untaken(Refusal::BadStart);
+        return untaken(config.refusal());
     };
     taken_in(config, least, msg, counts, cells)
 }

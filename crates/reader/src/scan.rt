@@ -90,11 +90,8 @@ pub(crate) fn weigh_message(
     requires { ⌜ (now received ≡ replicate 16 0) × (now given ≡ replicate 16 0) ⌝ }
     ensures { λ r. ⌜ (r ≡ checkAnswer config (now (msg .entry))) × (check config (now (msg .entry)) ≡ 0 → SheetSums config (now (msg .entry)) (now (received .exit)) (now (given .exit))) ⌝ }
 {
-    if !config.valid() {
-        return Verdict::Refused(Refusal::BadHouse);
-    }
     let Number::Value(least) = config.least() else {
-        return Verdict::Refused(Refusal::BadStart);
+        return Verdict::Refused(config.refusal());
     };
     let note = scan(config, &msg[0..], received, given);
     let end = finish(config, least, msg, received, given, note);

@@ -3,6 +3,7 @@ use super::cursor::bit;
 use config::Config;
 ghost use mathlib.Core.Path.{_≡_};
 ghost use mathlib.Core.Bool.{true};
+ghost use Prim.Native.Nat.{_≤_};
 ghost use Rattle.quorums.specs.Accounts.{weight as weightOf, margin};
 ghost use Rattle.config.specs.Cluster.{lawfulOf, serverOf, leastOf};
 ghost use Rattle.ledger.specs.Maps.{named};
@@ -16,7 +17,7 @@ pub(crate) fn above_floor(config: Config, least: u64, received: &[u64], given: &
     let n = config.n as usize;
     let mut i: usize = 0;
     while i < n {
-        if config.start_at(i as u64) + received[i] < given[i] + least {
+        if wide(config.starts[i]) + received[i] < given[i] + least {
             return false;
         }
         i += 1;
@@ -45,7 +46,7 @@ pub(crate) fn margin_of(config: Config, received: &[u64], given: &[u64], map: u6
     let mut gave: u64 = 0;
     let mut i: usize = 0;
     while i < n {
-        let start = config.start_at(i as u64);
+        let start = wide(config.starts[i]);
         total += start;
         if bit(map, i) == 1 {
             held = held + start + received[i];
@@ -55,4 +56,11 @@ pub(crate) fn margin_of(config: Config, received: &[u64], given: &[u64], map: u6
     }
     let less = 2 * gave + total;
     ((2 * held) as i64) - (less as i64)
+}
+
+// A number at a wider type, with its bound.
+fn wide(x: u16) -> u64
+    ensures { λ r. ⌜ (r ≡ x) × (r ≤ 65535) ⌝ }
+{
+    x as u64
 }

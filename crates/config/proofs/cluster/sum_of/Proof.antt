@@ -41,9 +41,6 @@ loop-again c =
     let turn = c .before .before .before in
     (omega arith, sym (sum-next (turn .loop .i) _ ∙ ap₂ _+_ (sym (turn .loop .inv .1)) (sym (c .wide .ensures .0))), omega arith)
 
-cast-result : tie.Need-cast-result Inv-loop μ-loop
-cast-result c = search needs
-
 returns : tie.Need-returns Inv-loop μ-loop
 returns c =
     let e : c .before .loop .i ≡ 16 = omega arith in
@@ -63,5 +60,4 @@ sum-of-spec =
     add-i
     loop-less
     loop-again
-    cast-result
     returns)

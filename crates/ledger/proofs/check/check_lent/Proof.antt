@@ -1,25 +1,13 @@
 -- `check_lent` meets its contract: the cluster's tests, and then the ledger's.
-use mathlib.Core.Path.{_≡_, sym, _∙_}
+use mathlib.Core.Path.{_≡_, sym, ap, _∙_}
 use mathlib.Core.Bool.{true}
 use borrow.Author.Needs.{needs}
-use borrow.Author.Tests.{not-true, not-false}
-use Rattle.config.specs.Cluster.{validOf, lawfulOf, leastOf}
-use Rattle.config.proofs.Clusters.{least-told, least-refused}
-use Rattle.ledger.specs.Checks.{checkAnswer}
-use Rattle.ledger.proofs.Checks.{check-lawful}
+use Rattle.config.specs.Cluster.{lawfulOf, leastOf}
+use Rattle.config.specs.declared.answer.Verdict.{Verdict}
+use Rattle.config.proofs.Clusters.{least-told, least-refused, why-fault}
+use Rattle.ledger.proofs.Checks.{check-lawful, check-unlawful}
 use Rattle.ledger.proofs.check.check_lent.Statement.{statement}
 use Rattle.ledger.proofs.check.check_lent.Tie as tie
-
-valid-requires : tie.Need-valid-requires
-valid-requires c κs = search needs
-
-returns : tie.Need-returns
-unfolding checkAnswer
-returns c = simp (sym (c .before .valid .ensures) ∙ not-true _ (c .if1 .taken))
-
--- n and f are within bounds
-within : (c : tie.Else1) → validOf (c .before .before .args .config) ≡ true
-within c = sym (c .before .valid .ensures) ∙ not-false _ (c .if1 .left)
 
 least-requires : tie.Need-least-requires
 least-requires c κs = search needs
@@ -30,11 +18,13 @@ enum-known-least c = search needs
 enum-told : tie.Need-enum-told
 enum-told c = search needs
 
-returns-2 : tie.Need-returns-2
-unfolding checkAnswer
-returns-2 c =
-    let l = c .before .before in
-    simp (within (l .before), least-refused _ _ (sym (l .least .ensures) ∙ c .enum-told .given .1) .0)
+refusal-requires : tie.Need-refusal-requires
+refusal-requires c κs = search needs
+
+returns : tie.Need-returns
+returns c =
+    let out = least-refused _ _ (sym (c .before .before .before .least .ensures) ∙ c .before .enum-told .given .1) .0 in
+    ap Verdict.Refused (c .refusal .ensures ∙ why-fault _ out) ∙ sym (check-unlawful _ _ out)
 
 slice-aggregate-weigh : tie.Need-slice-aggregate-weigh
 slice-aggregate-weigh c = search needs
@@ -42,16 +32,16 @@ slice-aggregate-weigh c = search needs
 slice-aggregate-weigh-2 : tie.Need-slice-aggregate-weigh-2
 slice-aggregate-weigh-2 c = search needs
 
--- and the least weight is told
-least : (c : tie.After-known-told) → let a = c .before .before .before .before .before .before .args in
+-- the least weight is told
+least : (c : tie.After-known-told) → let a = c .before .before .before .before .args in
     (lawfulOf (a .config) ≡ true) × (c .before .least2 .given .0 .0 ≡ leastOf (a .config))
 least c = least-told _ _ (sym (c .before .before .before .least .ensures) ∙ c .before .least2 .given .1)
 
 weigh-requires : tie.Need-weigh-requires
 weigh-requires c κs = let k = least (c .before .before .before .before) in (search needs, search needs, k .0, k .1, search needs, search needs)
 
-returns-3 : tie.Need-returns-3
-returns-3 c =
+returns-2 : tie.Need-returns-2
+returns-2 c =
     let w = c .before .before in
     w .weigh .ensures .0 ∙ sym (check-lawful _ _ (least (w .before .before .before .before .before) .0))
 
@@ -59,13 +49,12 @@ pub check-lent-spec : {M : Type 1} → statement M
 check-lent-spec =
     tie.close
     (tie.spec
-    valid-requires
-    returns
     least-requires
     enum-known-least
     enum-told
-    returns-2
+    refusal-requires
+    returns
     slice-aggregate-weigh
     slice-aggregate-weigh-2
     weigh-requires
-    returns-3)
+    returns-2)

@@ -5,7 +5,7 @@ use mathlib.Core.Path.{_≡_, refl, sym, _∙_}
 use mathlib.Core.Logic.{⊎-elim}
 use borrow.Author.Needs.{needs}
 use lib.ListN.{getD}
-use Rattle.config.specs.Cluster.{totalOf}
+use Rattle.config.specs.Cluster.{startOf, totalOf}
 use Rattle.config.proofs.Clusters.{valid-bounds}
 use Rattle.ledger.proofs.Answers.{read-back}
 use Rattle.ledger.proofs.Weights.{Counted, counted-none, counted-room, counted-named, counted-passed, margin-at}
@@ -13,60 +13,67 @@ use Rattle.ledger.proofs.sums.margin_of.Statement.{statement}
 use Rattle.ledger.proofs.sums.margin_of.Tie as tie
 
 abbrev Inv-loop : tie.InvT-loop
-Inv-loop config received given map n total₀ held₀ gave₀ i₀ total held gave i = (i ≤ config .n) × Counted config received given map i total held gave
+Inv-loop received given map config n total₀ held₀ gave₀ i₀ total held gave i = (i ≤ config .n) × Counted config received given map i total held gave
 
 abbrev μ-loop : tie.MeasureT-loop
-μ-loop config received given map n total₀ held₀ gave₀ i₀ total held gave i = config .n - i
+μ-loop received given map config n total₀ held₀ gave₀ i₀ total held gave i = config .n - i
 
 loop-holds : tie.Need-loop-holds Inv-loop μ-loop
 loop-holds c = (omega arith, counted-none _ _ _ _)
-
-start-at-requires : tie.Need-start-at-requires Inv-loop μ-loop
-start-at-requires c κs = search needs
 
 -- the entry, and the turn
 
 abbrev entry : tie.At-loop Inv-loop μ-loop → tie.Start Inv-loop μ-loop
 entry c = c .before .before .before
 
-abbrev turn : tie.After-start-at Inv-loop μ-loop → tie.At-loop Inv-loop μ-loop
-turn c = c .before .before
+abbrev turn : tie.After-wide16 Inv-loop μ-loop → tie.At-loop Inv-loop μ-loop
+turn c = c .before .before .before
 
 small : (c : tie.In-loop Inv-loop μ-loop) → c .before .loop .i < 16
 small c = omega (arith, c .loop-test .taken, valid-bounds _ (entry (c .before) .pre .0) .most)
 
+mul-wide16 : tie.Need-mul-wide16 Inv-loop μ-loop
+mul-wide16 c = omega (arith, small c)
+
+element-copy-out-wide16 : tie.Need-element-copy-out-wide16 Inv-loop μ-loop
+element-copy-out-wide16 c = omega (arith, small c)
+
+wide16-requires : tie.Need-wide16-requires Inv-loop μ-loop
+wide16-requires c κs = search needs
+
 -- what a turn may add fits
-room : (c : tie.After-start-at Inv-loop μ-loop) →
+room : (c : tie.After-wide16 Inv-loop μ-loop) →
     let a = entry (turn c) .args in
     let l = turn c .loop in
-    (l .total + c .start-at .result ≤ 1048560) × (l .held + c .start-at .result + getD (a .received .now) (l .i) 0 ≤ 1099512676080) × (l .gave + getD (a .given .now) (l .i) 0 ≤ 1099512676080)
+    (l .total + c .wide16 .result ≤ 1048560) × (l .held + c .wide16 .result + getD (a .received .now) (l .i) 0 ≤ 1099512676080) × (l .gave + getD (a .given .now) (l .i) 0 ≤ 1099512676080)
+unfolding startOf
 room c =
     let s = entry (turn c) in
-    counted-room (turn c .loop .inv .1) (s .pre .1) (s .pre .2) (c .start-at .ensures .0) (c .start-at .ensures .1) (small (c .before))
+    counted-room (turn c .loop .inv .1) (s .pre .1) (s .pre .2) (c .wide16 .ensures .0) (c .wide16 .ensures .1) (small (c .before .before))
 
 add-total : tie.Need-add-total Inv-loop μ-loop
 add-total c = omega (arith, room c .0)
 
 names-requires : tie.Need-names-requires Inv-loop μ-loop
-names-requires c κs = small (c .before)
+names-requires c κs = small (c .before .before)
 
 add-held : tie.Need-add-held Inv-loop μ-loop
 add-held c = omega (arith, room (c .before .before))
 
 mul-held : tie.Need-mul-held Inv-loop μ-loop
-mul-held c = omega (arith, small (c .before .before .before))
+mul-held c = omega (arith, small (c .before .before .before .before))
 
 shared-slice-read-held : tie.Need-shared-slice-read-held Inv-loop μ-loop
-shared-slice-read-held c = let t = c .before .before .before .before in omega (arith, small t, entry (t .before) .pre .1 .size)
+shared-slice-read-held c = let t = c .before .before .before .before .before in omega (arith, small t, entry (t .before) .pre .1 .size)
 
 add-held-2 : tie.Need-add-held-2 Inv-loop μ-loop
 add-held-2 c = omega (arith, room (c .before .before .before))
 
 mul-gave : tie.Need-mul-gave Inv-loop μ-loop
-mul-gave c = omega (arith, small (c .before .before .before .before))
+mul-gave c = omega (arith, small (c .before .before .before .before .before))
 
 shared-slice-read-gave : tie.Need-shared-slice-read-gave Inv-loop μ-loop
-shared-slice-read-gave c = let t = c .before .before .before .before .before in omega (arith, small t, entry (t .before) .pre .2 .size)
+shared-slice-read-gave c = let t = c .before .before .before .before .before .before in omega (arith, small t, entry (t .before) .pre .2 .size)
 
 add-gave : tie.Need-add-gave Inv-loop μ-loop
 add-gave c = omega (arith, room (c .before .before .before .before))
@@ -78,14 +85,15 @@ loop-less : tie.Need-loop-less Inv-loop μ-loop
 loop-less c = search needs
 
 loop-again : tie.Need-loop-again Inv-loop μ-loop
+unfolding startOf
 loop-again c =
     let x = c .before .before in
     let s = entry (turn x) in
     let sums = turn x .loop .inv .1 in
     let named = sym (c .before .names .ensures) in (
-      omega (arith, x .before .loop-test .taken),
-      ⊎-elim (λ w. counted-named sums (s .pre .1) (s .pre .2) (x .start-at .ensures .0) (x .start-at .ensures .1) (named ∙ w .0 .taken) refl (w .3) (w .4))
-          (λ w. counted-passed sums (s .pre .1) (s .pre .2) (x .start-at .ensures .0) (x .start-at .ensures .1) (named ∙ w .0 .left) refl (w .1) (w .2))
+      omega (arith, x .before .before .loop-test .taken),
+      ⊎-elim (λ w. counted-named sums (s .pre .1) (s .pre .2) (x .wide16 .ensures .0) (x .wide16 .ensures .1) (named ∙ w .0 .taken) refl (w .3) (w .4))
+          (λ w. counted-passed sums (s .pre .1) (s .pre .2) (x .wide16 .ensures .0) (x .wide16 .ensures .1) (named ∙ w .0 .left) refl (w .1) (w .2))
           (c .if1 .came),
     )
 
@@ -114,11 +122,11 @@ returns c =
     let end = c .before in
     let a = entry (end .before) .args in
     let l = end .before .loop in
-    let e : l .i ≡ a .config .n = omega arith in
-    let all : Counted (a .config) (a .received .now) (a .given .now) (a .map) (a .config .n) (l .total) (l .held) (l .gave) = rw e at (l .inv .1) in
+    let e : l .i ≡ a .t1 .n = omega arith in
+    let all : Counted (a .t1) (a .received .now) (a .given .now) (a .map) (a .t1 .n) (l .total) (l .held) (l .gave) = rw e at (l .inv .1) in
     read-back (c .difference .result) (c .difference .ok)
     ∙ c .difference .ensures
-    ∙ margin-at (a .config) (a .received .now) (a .given .now) (a .map) _ _ _ (all .total-is) (all .held-is) (all .gave-is)
+    ∙ margin-at (a .t1) (a .received .now) (a .given .now) (a .map) _ _ _ (all .total-is) (all .held-is) (all .gave-is)
 
 pub margin-of-spec : {M : Type 1} → statement M
 margin-of-spec =
@@ -127,7 +135,9 @@ margin-of-spec =
     Inv-loop
     μ-loop
     loop-holds
-    start-at-requires
+    mul-wide16
+    element-copy-out-wide16
+    wide16-requires
     add-total
     names-requires
     add-held

@@ -2,19 +2,17 @@
 use mathlib.Core.Path.{_≡_, refl, sym, ap, _∙_}
 use mathlib.Core.Bool.{true}
 use borrow.Author.Needs.{needs}
-use borrow.Author.Tests.{not-true, not-false}
 use lib.IntN.{ℤ}
-use Rattle.config.specs.Refusals.{refusal}
-use Rattle.config.specs.Cluster.{validOf, lawfulOf, leastOf}
-use Rattle.config.proofs.Clusters.{lawful-valid, least-told, least-refused}
+use Rattle.config.specs.Cluster.{lawfulOf, leastOf}
+use Rattle.config.proofs.Clusters.{lawful-valid, least-told, least-refused, why-fault}
 use Rattle.config.specs.declared.answer.Verdict.{Verdict}
 use Rattle.ledger.specs.declared.ledger.Ledger.{Ledger}
 use Rattle.ledger.specs.declared.sums.Weighed.{Weighed}
 use Rattle.ledger.specs.Ledgers.{ledgerOf}
-use Rattle.ledger.specs.Checks.{fitAnswer, checkAnswer}
-use Rattle.ledger.specs.Sums.{Weighs, weighedOf}
+use Rattle.ledger.specs.Checks.{checkAnswer}
+use Rattle.ledger.specs.Sums.{Weighs, weighedOf, unweighedOf}
 use Rattle.ledger.proofs.Answers.{read-back}
-use Rattle.ledger.proofs.Checks.{check-lawful}
+use Rattle.ledger.proofs.Checks.{check-lawful, check-unlawful}
 use Rattle.ledger.proofs.Weights.{weighs-margin}
 use Rattle.ledger.proofs.sums.weigh_lent.Statement.{statement}
 use Rattle.ledger.proofs.sums.weigh_lent.Tie as tie
@@ -25,7 +23,7 @@ weighing v y = record { verdict = v; margin = y }
 -- ---- the way back from each test
 
 abbrev start : tie.After-known-told → tie.Start
-start c = c .before .before .before .before .before .before
+start c = c .before .before .before .before
 
 abbrev known : tie.After-weigh → tie.After-known-told
 known c = c .before .before .before .before .before
@@ -42,20 +40,6 @@ weighed c = c .before .before .before .before
 abbrev accepting : tie.After-given3 → tie.After-enum-told2
 accepting c = c .before .before
 
-valid-requires : tie.Need-valid-requires
-valid-requires c κs = search needs
-
-unweighed-requires : tie.Need-unweighed-requires
-unweighed-requires c κs = search needs
-
-returns : tie.Need-returns
-unfolding weighedOf checkAnswer
-returns c = c .unweighed .ensures ∙ rw (sym (c .before .before .valid .ensures) ∙ not-true _ (c .before .if1 .taken)) refl
-
--- n and f are within bounds
-within : (c : tie.Else1) → validOf (c .before .before .args .config) ≡ true
-within c = sym (c .before .valid .ensures) ∙ not-false _ (c .if1 .left)
-
 least-requires : tie.Need-least-requires
 least-requires c κs = search needs
 
@@ -65,16 +49,20 @@ enum-known-least c = search needs
 enum-told : tie.Need-enum-told
 enum-told c = search needs
 
-unweighed-requires-2 : tie.Need-unweighed-requires-2
-unweighed-requires-2 c κs = search needs
+refusal-requires : tie.Need-refusal-requires
+refusal-requires c κs = search needs
 
-returns-2 : tie.Need-returns-2
-unfolding weighedOf checkAnswer
-returns-2 c =
-    let l = c .before .before .before in
-    c .unweighed2 .ensures ∙ rw (within (l .before), least-refused _ _ (sym (l .least .ensures) ∙ c .before .enum-told .given .1) .0) refl
+unweighed-requires : tie.Need-unweighed-requires
+unweighed-requires c κs = search needs
 
--- and the least weight is told
+returns : tie.Need-returns
+unfolding weighedOf
+returns c =
+    let r = c .before in
+    let out = least-refused _ _ (sym (r .before .before .before .least .ensures) ∙ r .before .enum-told .given .1) .0 in
+    c .unweighed .ensures ∙ ap unweighedOf (r .refusal .ensures ∙ why-fault _ out) ∙ rw (check-unlawful _ (ledger (r .before .before .before .before)) out) refl
+
+-- the least weight is told
 least : (c : tie.After-known-told) → (lawfulOf (start c .args .config) ≡ true) × (c .before .least2 .given .0 .0 ≡ leastOf (start c .args .config))
 least c = least-told _ _ (sym (c .before .before .before .least .ensures) ∙ c .before .least2 .given .1)
 
@@ -113,34 +101,32 @@ margin-of-requires c κs =
 enum-known-r : tie.Need-enum-known-r
 enum-known-r c = search needs
 
-unweighed-requires-3 : tie.Need-unweighed-requires-3
-unweighed-requires-3 c κs = search needs
+unweighed-requires-2 : tie.Need-unweighed-requires-2
+unweighed-requires-2 c κs = search needs
 
-returns-3 : tie.Need-returns-3
+returns-2 : tie.Need-returns-2
 unfolding weighedOf
-returns-3 c =
+returns-2 c =
     let t = accepting (c .before) in
     let exact = read-back (c .margin-of .result) (c .margin-of .ok) ∙ c .margin-of .ensures ∙ weighs-margin _ _ _ _ _ (sums t) in
     rw (check (weighed t) ∙ t .enum-told2 .given .1) (ap (λ y. weighing Verdict.Accepted y) exact)
 
-returns-4 : tie.Need-returns-4
+returns-3 : tie.Need-returns-3
 unfolding weighedOf
-returns-4 c =
+returns-3 c =
     let w = c .before .before .before .before .before .before in
-    c .unweighed3 .ensures ∙ rw (check w ∙ c .before .before .r .given .1) refl
+    c .unweighed2 .ensures ∙ rw (check w ∙ c .before .before .r .given .1) refl
 
 pub weigh-lent-spec : {M : Type 1} → statement M
 weigh-lent-spec =
     tie.close
     (tie.spec
-    valid-requires
-    unweighed-requires
-    returns
     least-requires
     enum-known-least
     enum-told
-    unweighed-requires-2
-    returns-2
+    refusal-requires
+    unweighed-requires
+    returns
     slice-aggregate-weigh
     slice-aggregate-weigh-2
     weigh-requires
@@ -149,6 +135,6 @@ weigh-lent-spec =
     slice-aggregate-margin-of-2
     margin-of-requires
     enum-known-r
-    unweighed-requires-3
-    returns-3
-    returns-4)
+    unweighed-requires-2
+    returns-2
+    returns-3)

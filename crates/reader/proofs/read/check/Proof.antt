@@ -1,10 +1,10 @@
 -- `check` meets its contract: 1 or 15 for the cluster, then the number of the scan.
-use mathlib.Core.Path.{_≡_, refl, sym, _∙_}
+use mathlib.Core.Path.{_≡_, refl, sym, ap, _∙_}
 use mathlib.Core.Bool.{true}
 use borrow.Author.Needs.{needs}
-use borrow.Author.Tests.{not-true, not-false}
 use Rattle.config.specs.Cluster.{lawfulOf, leastOf}
-use Rattle.config.proofs.Clusters.{not-lawful, least-told, least-refused, fault-first, fault-second}
+use Rattle.config.proofs.Clusters.{least-told, least-refused, why-fault}
+use Rattle.config.specs.declared.answer.Verdict.{Verdict}
 use Rattle.message.specs.Scans.{scanOf}
 use Rattle.reader.proofs.Answered.{verdict-unlawful, verdict-passed, verdict-found, found-refusal, received-small, given-small}
 use Rattle.reader.proofs.Scanned.{number-is}
@@ -20,7 +20,7 @@ abbrev scanned : tie.After-finish → tie.After-scan
 scanned c = c .before .before .before .before .before
 
 abbrev start : tie.After-known-told → tie.Start
-start c = c .before .before .before .before .before .before .before
+start c = c .before .before .before .before .before
 
 least : (c : tie.After-known-told) → (lawfulOf (start c .args .config) ≡ true) × (c .before .least2 .given .0 .0 ≡ leastOf (start c .args .config))
 least c = least-told _ _ (sym (c .before .before .before .least .ensures) ∙ c .before .least2 .given .1)
@@ -33,12 +33,6 @@ found c =
     let scan = s .scan .ensures in
     number-is _ _ (scan .0) (least (tested s) .0) (scan .1) (scan .2) (c .finish .ensures)
 
-valid-requires : tie.Need-valid-requires
-valid-requires c κs = search needs
-
-returns : tie.Need-returns
-returns c = let out = sym (c .before .valid .ensures) ∙ not-true _ (c .if1 .taken) in verdict-unlawful _ _ 1 (not-lawful _ out) (fault-first _ out)
-
 least-requires : tie.Need-least-requires
 least-requires c κs = search needs
 
@@ -48,12 +42,13 @@ enum-known-least c = search needs
 enum-told : tie.Need-enum-told
 enum-told c = search needs
 
-returns-2 : tie.Need-returns-2
-returns-2 c =
-    let l = c .before .before in
-    let valid = sym (l .before .before .valid .ensures) ∙ not-false _ (l .before .if1 .left) in
-    let out = least-refused _ _ (sym (l .least .ensures) ∙ c .enum-told .given .1) .0 in
-    verdict-unlawful _ _ 15 out (fault-second _ valid out)
+refusal-requires : tie.Need-refusal-requires
+refusal-requires c κs = search needs
+
+returns : tie.Need-returns
+returns c =
+    let out = least-refused _ _ (sym (c .before .before .before .least .ensures) ∙ c .before .enum-told .given .1) .0 in
+    ap Verdict.Refused (c .refusal .ensures ∙ why-fault _ out) ∙ verdict-unlawful _ _ _ out refl
 
 slice-aggregate-scan : tie.Need-slice-aggregate-scan
 slice-aggregate-scan c = search needs
@@ -76,35 +71,34 @@ finish-requires c κs =
     let scan = s .scan .ensures in
     (least (tested s) .0, least (tested s) .1, received-small _ _ (scan .1), given-small _ _ (scan .2))
 
-refusal-requires : tie.Need-refusal-requires
-refusal-requires c κs = found-refusal _ _ _ (found (c .before .before)) (c .if2 .taken)
+refusal-requires-2 : tie.Need-refusal-requires-2
+refusal-requires-2 c κs = found-refusal _ _ _ (found (c .before .before)) (c .if1 .taken)
+
+returns-2 : tie.Need-returns-2
+returns-2 c =
+    let end : tie.After-finish = c .before .before .before in
+    verdict-found _ _ _ (least (tested (scanned end)) .0) (found end) _ (c .before .if1 .taken) (c .refusal2 .ensures)
 
 returns-3 : tie.Need-returns-3
 returns-3 c =
-    let end : tie.After-finish = c .before .before .before in
-    verdict-found _ _ _ (least (tested (scanned end)) .0) (found end) _ (c .before .if2 .taken) (c .refusal .ensures)
-
-returns-4 : tie.Need-returns-4
-returns-4 c =
     let end : tie.After-finish = c .before .before in
-    verdict-passed _ _ _ (least (tested (scanned end)) .0) (found end) (c .if2 .left)
+    verdict-passed _ _ _ (least (tested (scanned end)) .0) (found end) (c .if1 .left)
 
 pub check-spec : {M : Type 1} → statement M
 check-spec =
     tie.close
     (tie.spec
-    valid-requires
-    returns
     least-requires
     enum-known-least
     enum-told
-    returns-2
+    refusal-requires
+    returns
     slice-aggregate-scan
     slice-aggregate-scan-2
     scan-requires
     slice-aggregate-finish
     slice-aggregate-finish-2
     finish-requires
-    refusal-requires
-    returns-3
-    returns-4)
+    refusal-requires-2
+    returns-2
+    returns-3)

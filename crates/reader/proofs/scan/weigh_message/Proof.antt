@@ -1,16 +1,16 @@
 -- `weigh_message` meets its contract: 1 or 15 for the cluster, then the number of the scan and its sums.
 use Prim.Native.Nat.{ℕ}
 use native.Mathlib.Omega.{arith}
-use mathlib.Core.Path.{_≡_, sym, _∙_}
+use mathlib.Core.Path.{_≡_, refl, sym, ap, _∙_}
 use mathlib.Core.Bool.{true, false}
 use mathlib.Core.List.{List}
 use borrow.Author.Needs.{needs}
-use borrow.Author.Tests.{not-true, not-false}
 use Rattle.config.specs.Cluster.{lawfulOf, clusterFault, leastOf}
 use Rattle.config.specs.Refusals.{refusal}
 use Rattle.config.specs.declared.cluster.Config.{Config}
+use Rattle.config.specs.declared.answer.Refusal.{Refusal}
 use Rattle.config.specs.declared.answer.Verdict.{Verdict}
-use Rattle.config.proofs.Clusters.{not-lawful, least-told, least-refused, fault-some, fault-first, fault-second}
+use Rattle.config.proofs.Clusters.{least-told, least-refused, fault-some, why-fault}
 use Rattle.message.specs.Answers.{check, checkAnswer}
 use Rattle.reader.specs.Sums.{SheetSums}
 use Rattle.message.specs.Scans.{scanOf}
@@ -21,11 +21,11 @@ use Rattle.reader.proofs.scan.weigh_message.Tie as tie
 
 -- each step from the one after it: the entry, the test of the cluster, the fields, the end
 
-abbrev start : tie.After-valid → tie.Start
+abbrev start : tie.After-least → tie.Start
 start c = c .before .before .before .before
 
 abbrev entry : tie.After-known-told → tie.Start
-entry c = start (c .before .before .before .before .before)
+entry c = start (c .before .before .before)
 
 abbrev tested : tie.After-scan → tie.After-known-told
 tested c = c .before .before .before .before
@@ -44,17 +44,11 @@ found c =
     let scan = scanned-part _ (entry (tested s) .args .msg .now) (s .scan .ensures) in
     number-is _ _ (scan .0) (least (tested s) .0) (scan .1) (scan .2) (c .finish .ensures)
 
-valid-requires : tie.Need-valid-requires
-valid-requires c κs = search needs
-
 -- what a cluster that isn't lawful comes to
-unlawful : (config : Config) (msg : List ℕ) (k : ℕ) {received given : List ℕ} → lawfulOf config ≡ false → clusterFault config ≡ k
-    → (Verdict.Refused (refusal k) ≡ checkAnswer config msg) × (check config msg ≡ 0 → SheetSums config msg received given)
+unlawful : (config : Config) (msg : List ℕ) (k : Refusal) {received given : List ℕ} → lawfulOf config ≡ false → k ≡ refusal (clusterFault config)
+    → (Verdict.Refused k ≡ checkAnswer config msg) × (check config msg ≡ 0 → SheetSums config msg received given)
 unlawful config msg k out is =
-    (verdict-unlawful config msg k out is, λ e. absurd (omega (arith, check-unlawful config msg out, fault-some config out .0)))
-
-returns : tie.Need-returns
-returns c = let out = sym (c .before .valid .ensures) ∙ not-true _ (c .if1 .taken) in unlawful _ _ 1 (not-lawful _ out) (fault-first _ out)
+    (ap Verdict.Refused is ∙ verdict-unlawful config msg _ out refl, λ e. absurd (omega (arith, check-unlawful config msg out, fault-some config out .0)))
 
 least-requires : tie.Need-least-requires
 least-requires c κs = search needs
@@ -65,12 +59,13 @@ enum-known-least c = search needs
 enum-told : tie.Need-enum-told
 enum-told c = search needs
 
-returns-2 : tie.Need-returns-2
-returns-2 c =
-    let l = c .before .before in
-    let valid = sym (l .before .before .valid .ensures) ∙ not-false _ (l .before .if1 .left) in
-    let out = least-refused _ _ (sym (l .least .ensures) ∙ c .enum-told .given .1) .0 in
-    unlawful _ _ 15 out (fault-second _ valid out)
+refusal-requires : tie.Need-refusal-requires
+refusal-requires c κs = search needs
+
+returns : tie.Need-returns
+returns c =
+    let out = least-refused _ _ (sym (c .before .before .before .least .ensures) ∙ c .before .enum-told .given .1) .0 in
+    unlawful _ _ _ out (c .refusal .ensures ∙ why-fault _ out)
 
 sub-scan : tie.Need-sub-scan
 sub-scan c = search needs
@@ -92,8 +87,8 @@ finish-requires c κs =
     let scan = scanned-part _ (entry (tested s) .args .msg .now) (s .scan .ensures) in
     (least (tested s) .0, least (tested s) .1, received-small _ _ (scan .1), given-small _ _ (scan .2))
 
-refusal-requires : tie.Need-refusal-requires
-refusal-requires c κs = found-refusal _ _ _ (found (c .before .before)) (c .if2 .taken)
+refusal-requires-2 : tie.Need-refusal-requires-2
+refusal-requires-2 c κs = found-refusal _ _ _ (found (c .before .before)) (c .if1 .taken)
 
 same-length : tie.Need-same-length
 same-length c = search needs
@@ -101,12 +96,12 @@ same-length c = search needs
 same-length-2 : tie.Need-same-length-2
 same-length-2 c = search needs
 
-returns-3 : tie.Need-returns-3
-returns-3 c =
+returns-2 : tie.Need-returns-2
+returns-2 c =
     let end : tie.After-finish = c .before .before .before in
     let s = scanned end in
     let scan = scanned-part _ (entry (tested s) .args .msg .now) (s .scan .ensures) in (
-      verdict-found _ _ _ (least (tested s) .0) (found end) _ (c .before .if2 .taken) (c .refusal .ensures),
+      verdict-found _ _ _ (least (tested s) .0) (found end) _ (c .before .if1 .taken) (c .refusal2 .ensures),
       λ e. sums-found _ _ e (scan .1) (scan .2),
     )
 
@@ -116,32 +111,31 @@ same-length-3 c = search needs
 same-length-4 : tie.Need-same-length-4
 same-length-4 c = search needs
 
-returns-4 : tie.Need-returns-4
-returns-4 c =
+returns-3 : tie.Need-returns-3
+returns-3 c =
     let end : tie.After-finish = c .before .before in
     let s = scanned end in
     let scan = scanned-part _ (entry (tested s) .args .msg .now) (s .scan .ensures) in
-    (verdict-passed _ _ _ (least (tested s) .0) (found end) (c .if2 .left), λ e. sums-found _ _ e (scan .1) (scan .2))
+    (verdict-passed _ _ _ (least (tested s) .0) (found end) (c .if1 .left), λ e. sums-found _ _ e (scan .1) (scan .2))
 
 pub weigh-message-spec : {M : Type 1} → statement M
 weigh-message-spec =
     tie.close
     (tie.spec
-    valid-requires
-    returns
     least-requires
     enum-known-least
     enum-told
-    returns-2
+    refusal-requires
+    returns
     sub-scan
     part-scan-start
     part-scan-end
     scan-requires
     finish-requires
-    refusal-requires
+    refusal-requires-2
     same-length
     same-length-2
-    returns-3
+    returns-2
     same-length-3
     same-length-4
-    returns-4)
+    returns-3)

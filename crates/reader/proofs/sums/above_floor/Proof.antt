@@ -9,22 +9,20 @@ use lib.Dec.{leb}
 use lib.ListN.{getD}
 use Rattle.quorums.specs.Sum.{all}
 use Rattle.quorums.proofs.Sums.{all-none, all-next, all-fails}
+use Rattle.config.specs.Cluster.{startOf}
 use Rattle.config.proofs.Clusters.{lawful-valid, lawful-bounds, least-small}
 use Rattle.ledger.proofs.Weights.{aboveAt, above-at}
 use Rattle.reader.proofs.sums.above_floor.Statement.{statement}
 use Rattle.reader.proofs.sums.above_floor.Tie as tie
 
 abbrev Inv-loop : tie.InvT-loop
-Inv-loop config least received given n i₀ i = (i ≤ config .n) × (all i (aboveAt config received given) ≡ true)
+Inv-loop least received given config n i₀ i = (i ≤ config .n) × (all i (aboveAt config received given) ≡ true)
 
 abbrev μ-loop : tie.MeasureT-loop
-μ-loop config least received given n i₀ i = config .n - i
+μ-loop least received given config n i₀ i = config .n - i
 
 loop-holds : tie.Need-loop-holds Inv-loop μ-loop
 loop-holds c = (omega arith, all-none _)
-
-start-at-requires : tie.Need-start-at-requires Inv-loop μ-loop
-start-at-requires c κs = search needs
 
 -- where a turn begins, and the entry
 
@@ -34,41 +32,54 @@ entry c = c .before .before .before .before
 small : (c : tie.In-loop Inv-loop μ-loop) → c .before .loop .i < 16
 small c = omega (arith, c .loop-test .taken, lawful-bounds _ (entry c .pre .0) .most)
 
+mul-wide : tie.Need-mul-wide Inv-loop μ-loop
+mul-wide c = omega (arith, small c)
+
+element-copy-out-wide : tie.Need-element-copy-out-wide Inv-loop μ-loop
+element-copy-out-wide c = omega (arith, small c)
+
+wide-requires : tie.Need-wide-requires Inv-loop μ-loop
+wide-requires c κs = search needs
+
 -- the test that the program makes
-above : (c : tie.After-start-at Inv-loop μ-loop) →
-    let a = entry (c .before) .args in
-    let i = c .before .before .loop .i in
-    aboveAt (a .config) (a .received .now) (a .given .now) i ≡ leb (getD (a .given .now) i 0 + a .least) (c .start-at .result + getD (a .received .now) i 0)
+above : (c : tie.After-wide Inv-loop μ-loop) →
+    let a = entry (c .before .before) .args in
+    let i = c .before .before .before .loop .i in
+    aboveAt (a .t1) (a .received .now) (a .given .now) i ≡ leb (getD (a .given .now) i 0 + a .least) (c .wide .result + getD (a .received .now) i 0)
+unfolding startOf
 above c =
-    let s = entry (c .before) in
-    above-at (s .args .config) (s .args .received .now) (s .args .given .now) _ _ _ (lawful-valid _ (s .pre .0)) (c .start-at .ensures .0) (s .pre .1)
+    let s = entry (c .before .before) in
+    above-at (s .args .t1) (s .args .received .now) (s .args .given .now) _ _ _ (lawful-valid _ (s .pre .0)) (c .wide .ensures .0) (s .pre .1)
 
 mul-if1 : tie.Need-mul-if1 Inv-loop μ-loop
-mul-if1 c = omega (arith, small (c .before))
+mul-if1 c = omega (arith, small (c .before .before))
 
 shared-slice-read-if1 : tie.Need-shared-slice-read-if1 Inv-loop μ-loop
-shared-slice-read-if1 c = let t = c .before .before in omega (arith, small t, entry t .pre .2 .size)
+shared-slice-read-if1 c = let t = c .before .before .before in omega (arith, small t, entry t .pre .2 .size)
 
 add-if1 : tie.Need-add-if1 Inv-loop μ-loop
 add-if1 c =
-    let t = c .before .before in
+    let t = c .before .before .before in
     let s = entry t in
-    omega (arith, c .before .start-at .ensures .1, s .pre .2 .small (t .before .loop .i))
+    omega (arith, c .before .wide .ensures .1, s .pre .2 .small (t .before .loop .i))
 
 mul-if1-2 : tie.Need-mul-if1-2 Inv-loop μ-loop
-mul-if1-2 c = omega (arith, small (c .before .before))
+mul-if1-2 c = omega (arith, small (c .before .before .before))
 
 shared-slice-read-if1-2 : tie.Need-shared-slice-read-if1-2 Inv-loop μ-loop
-shared-slice-read-if1-2 c = let t = c .before .before .before in omega (arith, small t, entry t .pre .3 .size)
+shared-slice-read-if1-2 c = let t = c .before .before .before .before in omega (arith, small t, entry t .pre .3 .size)
 
 add-if1-2 : tie.Need-add-if1-2 Inv-loop μ-loop
-add-if1-2 c = let t = c .before .before .before in omega (arith, entry t .pre .1, least-small _ (entry t .pre .0), entry t .pre .3 .small (t .before .loop .i))
+add-if1-2 c =
+    let t = c .before .before .before .before in
+    let s = entry t in
+    omega (arith, s .pre .1, least-small (s .args .t1) (s .pre .0), s .pre .3 .small (t .before .loop .i))
 
 returns : tie.Need-returns Inv-loop μ-loop
 returns c =
     let x = c .before .before .before in
-    let a = entry (x .before) .args in
-    sym (all-fails (a .config .n) (aboveAt (a .config) (a .received .now) (a .given .now)) _ (x .before .loop-test .taken) (above x ∙ lt-leb _ _ (c .if1 .taken)))
+    let a = entry (x .before .before) .args in
+    sym (all-fails (a .t1 .n) (aboveAt (a .t1) (a .received .now) (a .given .now)) _ (x .before .before .loop-test .taken) (above x ∙ lt-leb _ _ (c .if1 .taken)))
 
 add-i : tie.Need-add-i Inv-loop μ-loop
 add-i c = search needs
@@ -79,13 +90,13 @@ loop-less c = search needs
 loop-again : tie.Need-loop-again Inv-loop μ-loop
 loop-again c =
     let x = c .before .before .before in
-    let a = entry (x .before) .args in
-    let l = x .before .before .loop in
-    (omega (arith, x .before .loop-test .taken), all-next (l .i) (aboveAt (a .config) (a .received .now) (a .given .now)) (l .inv .1) (above x ∙ le-leb _ _ (c .if1 .left)))
+    let a = entry (x .before .before) .args in
+    let l = x .before .before .before .loop in
+    (omega (arith, x .before .before .loop-test .taken), all-next (l .i) (aboveAt (a .t1) (a .received .now) (a .given .now)) (l .inv .1) (above x ∙ le-leb _ _ (c .if1 .left)))
 
 returns-2 : tie.Need-returns-2 Inv-loop μ-loop
 returns-2 c =
-    let e : c .before .loop .i ≡ c .before .before .before .before .args .config .n = omega arith in
+    let e : c .before .loop .i ≡ c .before .before .before .before .args .t1 .n = omega arith in
     sym (rw e at (c .before .loop .inv .1))
 
 pub above-floor-spec : {M : Type 1} → statement M
@@ -95,7 +106,9 @@ above-floor-spec =
     Inv-loop
     μ-loop
     loop-holds
-    start-at-requires
+    mul-wide
+    element-copy-out-wide
+    wide-requires
     mul-if1
     shared-slice-read-if1
     add-if1

@@ -8,7 +8,7 @@ use borrow.Author.Needs.{needs}
 use borrow.Author.Tests.{eq-eqb, ne-eqb}
 use lib.ListN.{getD}
 use mir.Facts.{toZ-ofZ}
-use Rattle.config.specs.Cluster.{totalOf}
+use Rattle.config.specs.Cluster.{startOf, totalOf}
 use Rattle.config.proofs.Clusters.{lawful-bounds}
 use Rattle.format.specs.Bytes.{bit}
 use Rattle.ledger.specs.Maps.{named}
@@ -18,60 +18,67 @@ use Rattle.reader.proofs.sums.margin_of.Statement.{statement}
 use Rattle.reader.proofs.sums.margin_of.Tie as tie
 
 abbrev Inv-loop : tie.InvT-loop
-Inv-loop config received given map n total₀ held₀ gave₀ i₀ total held gave i = (i ≤ config .n) × Counted config received given map i total held gave
+Inv-loop received given map config n total₀ held₀ gave₀ i₀ total held gave i = (i ≤ config .n) × Counted config received given map i total held gave
 
 abbrev μ-loop : tie.MeasureT-loop
-μ-loop config received given map n total₀ held₀ gave₀ i₀ total held gave i = config .n - i
+μ-loop received given map config n total₀ held₀ gave₀ i₀ total held gave i = config .n - i
 
 loop-holds : tie.Need-loop-holds Inv-loop μ-loop
 loop-holds c = (omega arith, counted-none _ _ _ _)
-
-start-at-requires : tie.Need-start-at-requires Inv-loop μ-loop
-start-at-requires c κs = search needs
 
 -- the entry, and the turn
 
 abbrev entry : tie.At-loop Inv-loop μ-loop → tie.Start Inv-loop μ-loop
 entry c = c .before .before .before
 
-abbrev turn : tie.After-start-at Inv-loop μ-loop → tie.At-loop Inv-loop μ-loop
-turn c = c .before .before
+abbrev turn : tie.After-wide Inv-loop μ-loop → tie.At-loop Inv-loop μ-loop
+turn c = c .before .before .before
 
 small : (c : tie.In-loop Inv-loop μ-loop) → c .before .loop .i < 16
 small c = omega (arith, c .loop-test .taken, lawful-bounds _ (entry (c .before) .pre .0) .most)
 
+mul-wide : tie.Need-mul-wide Inv-loop μ-loop
+mul-wide c = omega (arith, small c)
+
+element-copy-out-wide : tie.Need-element-copy-out-wide Inv-loop μ-loop
+element-copy-out-wide c = omega (arith, small c)
+
+wide-requires : tie.Need-wide-requires Inv-loop μ-loop
+wide-requires c κs = search needs
+
 -- what a turn may add fits
-room : (c : tie.After-start-at Inv-loop μ-loop) →
+room : (c : tie.After-wide Inv-loop μ-loop) →
     let a = entry (turn c) .args in
     let l = turn c .loop in
-    (l .total + c .start-at .result ≤ 1048560) × (l .held + c .start-at .result + getD (a .received .now) (l .i) 0 ≤ 1099512676080) × (l .gave + getD (a .given .now) (l .i) 0 ≤ 1099512676080)
+    (l .total + c .wide .result ≤ 1048560) × (l .held + c .wide .result + getD (a .received .now) (l .i) 0 ≤ 1099512676080) × (l .gave + getD (a .given .now) (l .i) 0 ≤ 1099512676080)
+unfolding startOf
 room c =
     let s = entry (turn c) in
-    counted-room (turn c .loop .inv .1) (s .pre .1) (s .pre .2) (c .start-at .ensures .0) (c .start-at .ensures .1) (small (c .before))
+    counted-room (turn c .loop .inv .1) (s .pre .1) (s .pre .2) (c .wide .ensures .0) (c .wide .ensures .1) (small (c .before .before))
 
 add-total : tie.Need-add-total Inv-loop μ-loop
 add-total c = omega (arith, room c .0)
 
 bit-requires : tie.Need-bit-requires Inv-loop μ-loop
-bit-requires c κs = small (c .before)
+bit-requires c κs = small (c .before .before)
 
 add-held : tie.Need-add-held Inv-loop μ-loop
 add-held c = omega (arith, room (c .before .before))
 
 mul-held : tie.Need-mul-held Inv-loop μ-loop
-mul-held c = omega (arith, small (c .before .before .before))
+mul-held c = omega (arith, small (c .before .before .before .before))
 
 shared-slice-read-held : tie.Need-shared-slice-read-held Inv-loop μ-loop
-shared-slice-read-held c = let t = c .before .before .before .before in omega (arith, small t, entry (t .before) .pre .1 .size)
+shared-slice-read-held c = let t = c .before .before .before .before .before in omega (arith, small t, entry (t .before) .pre .1 .size)
 
 add-held-2 : tie.Need-add-held-2 Inv-loop μ-loop
 add-held-2 c = omega (arith, room (c .before .before .before))
 
 mul-gave : tie.Need-mul-gave Inv-loop μ-loop
-mul-gave c = omega (arith, small (c .before .before .before .before))
+mul-gave c = omega (arith, small (c .before .before .before .before .before))
 
 shared-slice-read-gave : tie.Need-shared-slice-read-gave Inv-loop μ-loop
-shared-slice-read-gave c = let t = c .before .before .before .before .before in omega (arith, small t, entry (t .before) .pre .2 .size)
+shared-slice-read-gave c = let t = c .before .before .before .before .before .before in omega (arith, small t, entry (t .before) .pre .2 .size)
 
 add-gave : tie.Need-add-gave Inv-loop μ-loop
 add-gave c = omega (arith, room (c .before .before .before .before))
@@ -83,15 +90,15 @@ loop-less : tie.Need-loop-less Inv-loop μ-loop
 loop-less c = search needs
 
 loop-again : tie.Need-loop-again Inv-loop μ-loop
-unfolding named bit
+unfolding named bit startOf
 loop-again c =
     let x = c .before .before in
     let s = entry (turn x) in
     let sums = turn x .loop .inv .1 in
     let read = c .before .bit .ensures .0 in (
-      omega (arith, x .before .loop-test .taken),
-      ⊎-elim (λ w. counted-named sums (s .pre .1) (s .pre .2) (x .start-at .ensures .0) (x .start-at .ensures .1) (eq-eqb _ 1 (sym read ∙ w .0 .taken)) refl (w .3) (w .4))
-          (λ w. counted-passed sums (s .pre .1) (s .pre .2) (x .start-at .ensures .0) (x .start-at .ensures .1) (ne-eqb _ 1 (λ e. w .0 .left (read ∙ e))) refl (w .1) (w .2))
+      omega (arith, x .before .before .loop-test .taken),
+      ⊎-elim (λ w. counted-named sums (s .pre .1) (s .pre .2) (x .wide .ensures .0) (x .wide .ensures .1) (eq-eqb _ 1 (sym read ∙ w .0 .taken)) refl (w .3) (w .4))
+          (λ w. counted-passed sums (s .pre .1) (s .pre .2) (x .wide .ensures .0) (x .wide .ensures .1) (ne-eqb _ 1 (λ e. w .0 .left (read ∙ e))) refl (w .1) (w .2))
           (c .if1 .came),
     )
 
@@ -132,11 +139,11 @@ unfolding totalOf
 returns c =
     let a = entry (c .before) .args in
     let l = c .before .loop in
-    let e : l .i ≡ a .config .n = omega arith in
-    let all : Counted (a .config) (a .received .now) (a .given .now) (a .map) (a .config .n) (l .total) (l .held) (l .gave) = rw e at (l .inv .1) in
+    let e : l .i ≡ a .t1 .n = omega arith in
+    let all : Counted (a .t1) (a .received .now) (a .given .now) (a .map) (a .t1 .n) (l .total) (l .held) (l .gave) = rw e at (l .inv .1) in
     toZ-ofZ (sub-result c)
     ∙ gap-is _ _ (held-small c) (less-small c)
-    ∙ margin-at (a .config) (a .received .now) (a .given .now) (a .map) _ _ _ (all .total-is) (all .held-is) (all .gave-is)
+    ∙ margin-at (a .t1) (a .received .now) (a .given .now) (a .map) _ _ _ (all .total-is) (all .held-is) (all .gave-is)
 
 pub margin-of-spec : {M : Type 1} → statement M
 margin-of-spec =
@@ -145,7 +152,9 @@ margin-of-spec =
     Inv-loop
     μ-loop
     loop-holds
-    start-at-requires
+    mul-wide
+    element-copy-out-wide
+    wide-requires
     add-total
     bit-requires
     add-held

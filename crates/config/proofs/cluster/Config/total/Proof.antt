@@ -17,6 +17,9 @@ enum-told c = search needs
 sum-of-requires : tie.Need-sum-of-requires
 sum-of-requires c κs = search needs
 
+cast-t10 : tie.Need-cast-t10
+cast-t10 c = search needs
+
 enum-known-r : tie.Need-enum-known-r
 enum-known-r c = search needs
 
@@ -35,4 +38,4 @@ returns-2 c =
 
 pub total-spec : {M : Type 1} → statement M
 total-spec =
-    tie.close (tie.spec least-requires enum-told sum-of-requires enum-known-r returns returns-2)
+    tie.close (tie.spec least-requires enum-told sum-of-requires cast-t10 enum-known-r returns returns-2)
