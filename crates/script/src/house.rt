@@ -3,7 +3,9 @@ use super::text::Parsed;
 use super::text::decimal;
 use super::text::find;
 use super::text::same;
-ghost use Prim.Native.Nat.{_≤_};
+ghost use mathlib.Core.Path.{_≡_};
+ghost use Prim.Native.Nat.{_≤_, min};
+ghost use lib.ListN.{replicate};
 
 // The most start weights that are kept. No house has as many servers: n above 16 is refused before its list is looked at, and for any other n a list of 17
 // is as little n long as a longer one. So what is kept of a longer list gets the answers of the whole.
@@ -22,7 +24,9 @@ pub struct House {
 
 impl House {
     // The house that begins level.
-    pub fn level(n: u64, f: u64) -> House {
+    pub fn level(n: u64, f: u64) -> House
+        ensures { λ r. ⌜ (r .n ≡ n) × (r .f ≡ f) × (r .starts ≡ replicate 17 1000) × (r .count ≡ n) ⌝ }
+    {
         House {
             n,
             f,
@@ -33,7 +37,7 @@ impl House {
 
     // How many start weights are kept.
     pub fn kept(self) -> usize
-        ensures { λ r. ⌜ r ≤ 17 ⌝ }
+        ensures { λ r. ⌜ (r ≡ min (self .count) 17) × (r ≤ 17) ⌝ }
     {
         if MOST_STARTS < self.count {
             return MOST_STARTS;
