@@ -10,7 +10,7 @@ kept-requires : tie.Need-kept-requires
 kept-requires c κs = search needs
 
 array-share-prefix-starts : tie.Need-array-share-prefix-starts
-array-share-prefix-starts c = kept-fits (c .before .before .args .house) _ (c .before .before .good .0) (c .kept .ensures)
+array-share-prefix-starts c = kept-fits (c .before .before .args .house) _ (c .before .before .good .0) (c .kept .ensures .1)
 
 slice-aggregate-open : tie.Need-slice-aggregate-open
 slice-aggregate-open c = sym (length-take-le _ _ (array-share-prefix-starts (c .before)))
