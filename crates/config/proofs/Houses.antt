@@ -1,15 +1,14 @@
 -- What a call is given and what is kept of it: the same start weights, the same W, and the same number for what is wrong; and what a level house comes to.
 use Prim.Native.Nat.{ℕ, _+_, _-_, _*_, _^_, _≤_, _<_}
 use native.Mathlib.Omega.{arith}
-use mathlib.Core.Path.{_≡_, refl, sym, ap, _∙_}
+use mathlib.Core.Path.{_≡_, refl, sym, _∙_}
 use mathlib.Core.Logic.{⊎-elim}
 use mathlib.Core.Bool.{Bool, true, false, cond}
 use borrow.Author.Tests.{le-leb, leb-true, lt-ltb, le-ltb, ltb-true, eq-eqb, ne-eqb, eqb-true}
 use lib.Dec.{eqb, leb, ltb}
 use lib.IntN.{pos}
 use lib.ListN.{length, getD, replicate, length-replicate, getD-replicate, List·getD-eq-default}
-use Rattle.quorums.specs.Difference.{difference}
-use Rattle.quorums.specs.Sum.{sum, all}
+use Rattle.quorums.specs.Sum.{sum}
 use Rattle.quorums.specs.Accounts.{above}
 use Rattle.quorums.proofs.Sums.{sum-const, sum-rest, sum-same, all-each, each-all}
 use Rattle.quorums.proofs.Tables.{table-at, table-length}
@@ -19,7 +18,7 @@ use Rattle.quorums.proofs.Weights.{above-is}
 use Rattle.config.specs.declared.cluster.Config.{Config}
 use Rattle.config.specs.Answers.{configAnswer}
 use Rattle.config.specs.Cluster.{House, Typed, noConfig, level, inBounds, validOf, startOf, totalOf, aboveOf, endsOf, startsAbove, lawfulOf, clusterFault, lawfulList, houseFault, keeps, keptOf, configOf}
-use Rattle.config.proofs.Clusters.{Lawful, valid-bounds, bounds-valid, lawful-told, told-lawful, start-above}
+use Rattle.config.proofs.Clusters.{valid-bounds, lawful-told, told-lawful, start-above}
 
 -- entry i of the list, and W
 abbrev entry : House → ℕ → ℕ

@@ -6,7 +6,6 @@ use Rattle.config.specs.Cluster.{House, configOf, noConfig, validOf, Typed as T
 use Rattle.config.specs.Answers.{judged}
 use Rattle.config.specs.declared.cluster.Config.{Config}
 use Rattle.config.specs.declared.answer.Refusal.{Refusal}
-use Rattle.config.specs.Refusals.{refusal}
 use Rattle.config.specs.declared.answer.Verdict.{Verdict}
 use Rattle.replica.specs.Replicas.{freshReplica, fits as fitsReplica, Typed as TypedReplica}
 use Rattle.desk.specs.declared.operation.Operation.{Operation}

@@ -1,17 +1,16 @@
 -- What the calls on messages answer to n, f and a list that are not lawful (paper 02, N2): 1 or 15, whatever the message, the server and the map are.
 use Prim.Native.Nat.{ℕ}
-use native.Mathlib.Omega.{arith}
-use mathlib.Core.Path.{_≡_, refl, sym, ap, _∙_}
+use mathlib.Core.Path.{_≡_, refl, sym, _∙_}
 use mathlib.Core.Bool.{Bool, true, false}
 use mathlib.Core.List.{List}
 use borrow.Author.Tests.{ne-eqb}
-use Rattle.config.specs.Cluster.{House, houseFault, clusterFault, configOf, lawfulOf}
+use Rattle.config.specs.Cluster.{House, houseFault, configOf, lawfulOf}
 use Rattle.config.specs.Refusals.{refusal}
 use Rattle.config.proofs.Clusters.{fault-none}
 use Rattle.config.proofs.Houses.{given-fault}
 use Rattle.message.specs.Answers.{check, checkAnswer, verdictOf}
 use Rattle.reader.specs.Weighings.{weightIn, quorumIn}
-use Rattle.host.specs.Codes.{refusalCode, verdictCode, signedCode, checkCode, weightCode, quorumCode}
+use Rattle.host.specs.Codes.{refusalCode, checkCode, weightCode, quorumCode}
 
 module _ (h : House) (bad : houseFault h ≡ 0 → ⊥) (msg : List ℕ) where
   -- the number of the check is the house's

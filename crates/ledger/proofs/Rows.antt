@@ -1,9 +1,8 @@
 -- Tests of all 256 cells, row by row.
 use Prim.Native.Nat.{ℕ, _+_, _-_, _*_, _/_, _%_, _<_}
-use native.Mathlib.Numerals.{add-one}
 use native.Mathlib.Omega.{arith}
-use mathlib.Core.Path.{_≡_, refl, sym, ap, subst, _∙_}
-use mathlib.Core.Bool.{Bool, true, false, cond}
+use mathlib.Core.Path.{_≡_, refl, ap, subst, _∙_}
+use mathlib.Core.Bool.{Bool, true, cond}
 use lib.Dec.{eqb}
 use mathlib.Core.List.{List}
 use lib.ListN.{length, getD, take, drop, length-drop}
@@ -12,7 +11,7 @@ use Rattle.quorums.specs.Sum.{all}
 use Rattle.ledger.specs.declared.ledger.Ledger.{Ledger}
 use Rattle.ledger.specs.Ledgers.{countOf}
 use Rattle.ledger.specs.Joins.{agree, agreeAt, rowAgrees, rowAgreesAt}
-use Rattle.quorums.proofs.Sums.{all-suc, all-each, each-all, all-same}
+use Rattle.quorums.proofs.Sums.{all-each, each-all, all-same}
 use Rattle.quorums.proofs.Tests.{one-test}
 
 -- 256 cells are 16 rows of 16

@@ -9,7 +9,6 @@ use mathlib.Core.Option.{Option, some}
 use lib.ListN.{replicate}
 use Rattle.config.proofs.Houses.{level-fault}
 use Rattle.config.specs.Cluster.{level, houseFault, House}
-use Rattle.config.specs.declared.cluster.Config.{Config}
 use Rattle.machine.specs.Parties.{Register, below, Task, read, write, writes, Result}
 use Rattle.machine.specs.Runs.{nth, told, answerAt}
 use Rattle.machine.specs.Steps.{Step as PlainStep, begin as plain-begin, result as plain-result}

@@ -11,9 +11,8 @@ use lib.ListN.{length}
 use Rattle.quorums.specs.Sum.{sum}
 use Rattle.config.specs.Cluster.{House, configOf, lawfulOf}
 use Rattle.config.specs.declared.cluster.Config.{Config}
-use Rattle.config.specs.Refusals.{refusal}
 use Rattle.ledger.specs.Ledgers.{countOf}
-use Rattle.desk.specs.Desks.{numberLawful, accepted, refused, freshDesk, blankDesk, opens, openOf as openDesk}
+use Rattle.desk.specs.Desks.{freshDesk, blankDesk}
 use Rattle.machine.specs.Parties.{Register, Phase, first, second, by-phase, Operation, Activity, idle, running, ended, freshDesk as plainFresh}
 use Rattle.machine.specs.Runs.{mostDesk, at, deskAt}
 use Rattle.machine.specs.Steps.{PlainRun}

@@ -1,7 +1,7 @@
 -- `sum_of` meets its contract: after i turns the total is the sum of the first i start weights, each below 2 ^ 16.
 use Prim.Native.Nat.{_+_, _*_, _-_, _≤_}
 use native.Mathlib.Omega.{arith}
-use mathlib.Core.Path.{_≡_, sym, ap, ap₂, _∙_}
+use mathlib.Core.Path.{_≡_, sym, ap₂, _∙_}
 use borrow.Author.Needs.{needs}
 use lib.ListN.{getD}
 use Rattle.quorums.specs.Sum.{sum}

@@ -1,9 +1,9 @@
 -- `kept` meets its contract: after i turns the first i entries are in their places, none of them above 16,000, and there are zeros after them.
-use Prim.Native.Nat.{ℕ, _-_, _≤_, _<_}
+use Prim.Native.Nat.{_-_}
 use native.Mathlib.Omega.{arith}
-use mathlib.Core.Path.{_≡_, sym}
+use mathlib.Core.Path.{_≡_}
 use borrow.Author.Needs.{needs}
-use lib.ListN.{length, getD}
+use lib.ListN.{length}
 use Rattle.config.proofs.Filled.{Filled, filled-none, filled-turn, filled-all, short, many, large}
 use Rattle.config.proofs.list.kept.Statement.{statement}
 use Rattle.config.proofs.list.kept.Tie as tie

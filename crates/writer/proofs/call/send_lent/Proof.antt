@@ -1,11 +1,9 @@
 -- `send_lent` meets its contract: what is sent is what the reader takes.
 use mathlib.Core.Path.{_≡_, refl, sym, _∙_}
-use mathlib.Core.Bool.{cond, true, false}
 use borrow.Author.Needs.{needs}
 use borrow.Author.Tests.{not-true, not-false}
 use Rattle.quorums.proofs.Tests.{both}
 use Rattle.replica.specs.Parts.{replicaOf}
-use Rattle.replica.specs.Replicas.{fits}
 use Rattle.message.specs.Faults.{lawful, faultOf, sendOf}
 use Rattle.message.proofs.Found.{no-fault, fault-sends}
 use Rattle.writer.proofs.call.send_lent.Statement.{statement}

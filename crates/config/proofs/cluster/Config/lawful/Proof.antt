@@ -1,5 +1,5 @@
 -- `lawful` meets its contract: nothing is wrong with exactly the lawful ones.
-use mathlib.Core.Path.{sym, ap, _∙_}
+use mathlib.Core.Path.{ap, _∙_}
 use borrow.Author.Needs.{needs}
 use lib.Dec.{eqb}
 use Rattle.config.proofs.Clusters.{fault-lawful}
