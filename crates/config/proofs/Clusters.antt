@@ -5,6 +5,7 @@ use native.Mathlib.Omega.{arith}
 use mathlib.Core.Path.{_≡_, refl, sym, ap, _∙_}
 use mathlib.Core.Logic.{⊎-elim}
 use mathlib.Core.Bool.{Bool, true, false, cond, not, false≢true}
+use mathlib.Core.List.{[]}
 use borrow.Author.Tests.{le-leb, leb-true, lt-ltb, le-ltb, ltb-true, lt-leb, eq-eqb, ne-eqb, eqb-true}
 use lib.Dec.{leb, ltb, eqb}
 use lib.IntN.{ℤ, pos, negsuc}
@@ -19,7 +20,7 @@ use Rattle.config.specs.declared.cluster.Config.{Config}
 use Rattle.config.specs.Refusals.{refusal}
 use Rattle.config.specs.declared.answer.Refusal.{Refusal}
 use Rattle.config.specs.declared.answer.Number.{Number}
-use Rattle.config.specs.Cluster.{validOf, lawfulOf, endsOf, startsAbove, clusterFault, whyOf, serverOf, startOf, totalOf, aboveOf, leastOf}
+use Rattle.config.specs.Cluster.{inBounds, clusterOf, validOf, lawfulOf, endsOf, startsAbove, clusterFault, whyOf, serverOf, startOf, totalOf, aboveOf, leastOf, leastIf, leastBy}
 use Rattle.config.specs.declared.cluster.First.{First}
 use Rattle.config.specs.Firsts.{Firsts}
 use Rattle.config.specs.Answers.{judged, totalAnswer, leastAnswer}
@@ -38,6 +39,10 @@ valid-bounds c e =
     let x = both (leb 1 (c .n)) _ e in
     let y = both (leb (c .n) 16) _ (x .1) in
     record { some = leb-true _ _ (x .0); most = leb-true _ _ (y .0); crash = ltb-true _ _ (y .1) }
+
+pub in-bounds : (n f : ℕ) → inBounds n f ≡ true → Bounds (clusterOf n f [])
+unfolding validOf
+in-bounds n f e = valid-bounds (clusterOf n f []) e
 
 pub bounds-valid : (c : Config) → Bounds c → validOf c ≡ true
 unfolding validOf
@@ -295,57 +300,66 @@ fault-lawful c = by-lawful (lawfulOf c) refl
     by-lawful true e = eq-eqb (clusterFault c) 0 (fault-none c e)
     by-lawful false e = ne-eqb (clusterFault c) 0 (λ z. omega (arith, z, fault-some c e .0))
 
--- ---- the least weight from what is found of the first n
+-- ---- the least weight, where a cluster is lawful
+
+-- it is not 0
+pub least-if-told : (c : Config) → (leastIf c ≡ 0 → ⊥) → (lawfulOf c ≡ true) × (leastIf c ≡ leastOf c)
+unfolding leastIf
+least-if-told c some = by-lawful (lawfulOf c) refl
+  where
+    by-lawful : (t : Bool) → lawfulOf c ≡ t → (lawfulOf c ≡ true) × (leastIf c ≡ leastOf c)
+    by-lawful true e = (e, rw e refl)
+    by-lawful false e = absurd (some (rw e refl))
+
+-- and where it is not lawful, it is
+pub least-if-none : (c : Config) → leastIf c ≡ 0 → lawfulOf c ≡ false
+unfolding leastIf leastOf
+least-if-none c none = test-false (lawfulOf c) (λ l. let z = rw l at none in omega (arith, z))
+
+pub least-if-fault : (c : Config) → lawfulOf c ≡ false → leastIf c ≡ 0
+unfolding leastIf
+least-if-fault c e = rw e refl
+
+-- the least weight, or what is wrong
+pub least-answer : (c : Config) → (leastIf c ≡ 0 → ⊥) → Number.Value (leastIf c) ≡ leastAnswer c
+unfolding leastAnswer
+least-answer c some = let t = least-if-told c some in ap Number.Value (t .1) ∙ sym (judged-lawful c _ Number.Refused (t .0))
+
+pub least-answer-none : (c : Config) → leastIf c ≡ 0 → Number.Refused (whyOf c) ≡ leastAnswer c
+unfolding leastAnswer
+least-answer-none c none =
+    let no = least-if-none c none in
+    ap Number.Refused (why-fault c no) ∙ sym (judged-fault c _ Number.Refused no)
+
+-- ---- the same from what is found of the first n
 
 module _ (c : Config) (v : validOf c ≡ true) (first : First) (f : Firsts (c .starts) (c .n) first) where
   total-found : first .total ≡ totalOf c
   unfolding totalOf startOf
   total-found = f .total-is
 
-  pub least-beyond : (sum 16 (startOf c) ≡ first .total → ⊥) → Number.Refused (refusal 15) ≡ leastAnswer c
-  unfolding leastAnswer
-  least-beyond ne =
-      let no : lawfulOf c ≡ false = test-false (lawfulOf c) (λ l. ne (total-all c v (lawful-told c l .ends) ∙ sym total-found)) in
-      rw (v, no) refl
-
-  pub least-over : 16000 < first .total → Number.Refused (refusal 15) ≡ leastAnswer c
-  unfolding leastAnswer
-  least-over h =
-      let no : lawfulOf c ≡ false = test-false (lawfulOf c) (λ l. omega (arith, h, total-found, lawful-told c l .small)) in
-      rw (v, no) refl
+  pub least-beyond : (sum 16 (startOf c) ≡ first .total → ⊥) → 0 ≡ leastIf c
+  least-beyond ne = sym (least-if-fault c (test-false (lawfulOf c) (λ l. ne (total-all c v (lawful-told c l .ends) ∙ sym total-found))))
 
   -- the least of them, beside the least weight
   lowest-above : leastOf c ≤ 65535 → startsAbove c ≡ leb (leastOf c) (first .lowest)
   unfolding startOf
   lowest-above s = starts-least c v ∙ sym (f .lowest-is (leastOf c) s)
 
-  module _ (all-are : sum 16 (startOf c) ≡ first .total) (few : first .total ≤ 16000) where
-    least-is : first .total / (2 * (c .n - c .f)) + 1 ≡ leastOf c
-    unfolding leastOf
-    least-is = ap (λ x. x / (2 * (c .n - c .f)) + 1) total-found
+  least-is : first .total / (2 * (c .n - c .f)) + 1 ≡ leastOf c
+  unfolding leastOf
+  least-is = ap (λ x. x / (2 * (c .n - c .f)) + 1) total-found
 
-    low : leastOf c ≤ 65535
-    low = omega (arith, least-is, few, div-le-self (first .total) (2 * (c .n - c .f)))
-
-    pub least-under : first .lowest < first .total / (2 * (c .n - c .f)) + 1 → Number.Refused (refusal 15) ≡ leastAnswer c
-    unfolding leastAnswer
-    least-under h =
-        let out : startsAbove c ≡ false = lowest-above low ∙ lt-leb (leastOf c) (first .lowest) (omega (arith, h, least-is)) in
-        let no : lawfulOf c ≡ false = test-false (lawfulOf c) (λ l. false≢true (sym out ∙ lawful-told c l .each-above)) in
-        rw (v, no) refl
-
-    pub least-fit : first .total / (2 * (c .n - c .f)) + 1 ≤ first .lowest → Number.Value (first .total / (2 * (c .n - c .f)) + 1) ≡ leastAnswer c
-    unfolding leastAnswer
-    least-fit h =
-        let yes : lawfulOf c ≡ true =
-        told-lawful c
-        (record {
-          valid = v;
-          ends = all-total c v (all-are ∙ total-found);
-          small = omega (arith, total-found, few);
-          each-above = lowest-above low ∙ le-leb (leastOf c) (first .lowest) (omega (arith, h, least-is));
-        }) in
-        rw (v, yes, least-is) refl
+  pub least-found : sum 16 (startOf c) ≡ first .total → leastBy (c .n) (c .f) (first .total) (first .lowest) ≡ leastIf c
+  unfolding leastBy leastIf lawfulOf
+  least-found all-are =
+      ⊎-elim
+      (λ (few : first .total ≤ 16000).
+      let low : leastOf c ≤ 65535 = omega (arith, least-is, few, div-le-self (first .total) (2 * (c .n - c .f))) in
+      rw (v, all-total c v (all-are ∙ total-found), least-is, sym total-found, le-leb _ _ few, lowest-above low) refl)
+      (λ (many : 16000 < first .total).
+      rw (v, all-total c v (all-are ∙ total-found), sym total-found, lt-leb _ _ many) refl)
+      (le-or-lt (first .total) 16000)
 
 -- W is the sum of 16 too
 pub total-sum : (c : Config) → lawfulOf c ≡ true → sum 16 (startOf c) ≡ totalOf c

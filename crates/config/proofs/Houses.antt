@@ -1,24 +1,28 @@
 -- What a call is given and what is kept of it: the same start weights, the same W, and the same number for what is wrong; and what a level house comes to.
 use Prim.Native.Nat.{ℕ, _+_, _-_, _*_, _^_, _≤_, _<_}
 use native.Mathlib.Omega.{arith}
-use mathlib.Core.Path.{_≡_, refl, sym, _∙_}
+use mathlib.Core.Path.{_≡_, refl, sym, ap, _∙_}
 use mathlib.Core.Logic.{⊎-elim}
 use mathlib.Core.Bool.{Bool, true, false, cond}
+use mathlib.Core.List.{List}
 use borrow.Author.Tests.{le-leb, leb-true, lt-ltb, le-ltb, ltb-true, eq-eqb, ne-eqb, eqb-true}
 use lib.Dec.{eqb, leb, ltb}
 use lib.IntN.{pos}
 use lib.ListN.{length, getD, replicate, length-replicate, getD-replicate, List·getD-eq-default}
 use Rattle.quorums.specs.Sum.{sum}
 use Rattle.quorums.specs.Accounts.{above}
-use Rattle.quorums.proofs.Sums.{sum-const, sum-rest, sum-same, all-each, each-all}
+use Rattle.quorums.proofs.Sums.{sum-const, sum-rest, sum-same, all-each, each-all, all-same}
 use Rattle.quorums.proofs.Tables.{table-at, table-length}
-use Rattle.quorums.proofs.Tests.{le-or-lt, one-test, both}
+use Rattle.quorums.proofs.Tests.{le-or-lt, one-test, test-false, both}
 use Rattle.quorums.proofs.Differences.{pos-difference}
 use Rattle.quorums.proofs.Weights.{above-is}
 use Rattle.config.specs.declared.cluster.Config.{Config}
-use Rattle.config.specs.Answers.{configAnswer}
-use Rattle.config.specs.Cluster.{House, Typed, noConfig, level, inBounds, validOf, startOf, totalOf, aboveOf, endsOf, startsAbove, lawfulOf, clusterFault, lawfulList, houseFault, keeps, keptOf, configOf}
-use Rattle.config.proofs.Clusters.{valid-bounds, lawful-told, told-lawful, start-above}
+use Rattle.config.specs.declared.cluster.First.{First}
+use Rattle.config.specs.Firsts.{Firsts}
+use Rattle.config.specs.Answers.{configAnswer, configRefused}
+use Rattle.config.specs.Cluster.{House, Typed, noConfig, level, inBounds, validOf, startOf, totalOf, aboveOf, endsOf, startsAbove, lawfulOf, leastIf, leastBy, clusterFault, lawfulList, houseFault, keeps, keptOf, configOf}
+use Rattle.config.proofs.Clusters.{valid-bounds, lawful-told, told-lawful, start-above, total-all, fault-none, least-if-told, least-if-none, least-found}
+use Rattle.config.proofs.Filled.{Gathered, filled-keeps}
 
 -- entry i of the list, and W
 abbrev entry : House → ℕ → ℕ
@@ -146,14 +150,54 @@ given-fault h = by-bounds (inBounds (h .n) (h .f)) refl
     by-bounds true v = rw (given-lawful h v) refl
     by-bounds false v = refl
 
--- the answer of a call that is given a house
-pub house-refused : (h : House) (k : ℕ) (x : Config) → k ≡ houseFault h → (k ≡ 0 → ⊥) → x ≡ noConfig → record { number = k; config = x } ≡ configAnswer h
-unfolding configAnswer
-house-refused h k x is some none = rw (none, sym is, ne-eqb k 0 some) refl
+-- ---- the answer to what is given
 
-pub house-taken : (h : House) (k : ℕ) (x : Config) → k ≡ houseFault h → k ≡ 0 → x ≡ configOf h → record { number = k; config = x } ≡ configAnswer h
+-- n or f is out of bounds
+pub bounds-refused : (h : House) → inBounds (h .n) (h .f) ≡ false → configRefused 1 ≡ configAnswer h
+unfolding configAnswer houseFault
+bounds-refused h e = rw e refl
+
+-- the list is not lawful: it has another length, or an entry that is above what all may weigh together, or what was kept of it has no least weight
+list-refused : (h : House) → inBounds (h .n) (h .f) ≡ true → lawfulList h ≡ false → configRefused 15 ≡ configAnswer h
+unfolding configAnswer houseFault
+list-refused h v e = rw (v, e) refl
+
+pub length-refused : (h : House) → inBounds (h .n) (h .f) ≡ true → (length (h .starts) ≡ h .n → ⊥) → configRefused 15 ≡ configAnswer h
+length-refused h v ne = list-refused h v (test-false (lawfulList h) (λ l. ne (list-told h l .long)))
+
+pub entry-refused : (h : House) → inBounds (h .n) (h .f) ≡ true → (i : ℕ) → i < h .n → 16000 < getD (h .starts) i 0 → configRefused 15 ≡ configAnswer h
+entry-refused h v i l big =
+    list-refused h v (test-false (lawfulList h) (λ e. omega (arith, big, entry-small h (list-told h e .small) i l)))
+
+pub least-refusing : (h : House) → inBounds (h .n) (h .f) ≡ true → leastIf (configOf h) ≡ 0 → configRefused 15 ≡ configAnswer h
+least-refusing h v none = list-refused h v (sym (given-lawful h v) ∙ least-if-none (configOf h) none)
+
+-- nothing is wrong
+pub house-taken : (h : House) (x : Config) → x ≡ configOf h → (leastIf (configOf h) ≡ 0 → ⊥) → record { number = 0; least = leastIf (configOf h); config = x } ≡ configAnswer h
 unfolding configAnswer
-house-taken h k x is zero kept = rw (kept, sym is, eq-eqb k 0 zero) refl
+house-taken h x kept some =
+    let t = least-if-told (configOf h) some in
+    let none : houseFault h ≡ 0 = sym (given-fault h) ∙ fault-none (configOf h) (t .0) in
+    rw (kept, t .1, none) refl
+
+-- The least weight of what is kept, from what the entries come to.
+pub gathered-least : (h : House) (kept : List ℕ) (total lowest : ℕ) → inBounds (h .n) (h .f) ≡ true → Gathered (h .n) (h .starts) kept total lowest (h .n)
+    → leastBy (h .n) (h .f) total lowest ≡ leastIf (configOf h)
+unfolding validOf startOf
+gathered-least h kept total lowest v g =
+    let k = filled-keeps (h .n) (h .starts) kept (g .filled) in
+    let few = kept-told h k .few in
+    let first : First = record { total = total; lowest = lowest } in
+    let firsts : Firsts (configOf h .starts) (h .n) first =
+    record {
+      total-is = g .total-is ∙ sym (total-kept' k);
+      total-small = omega (arith, g .total-small, few);
+      lowest-is = λ b l. g .lowest-is b l ∙ sym (all-same (h .n) _ _ (λ i m. ap (leb b) (start-kept h k i (omega (arith, few)))));
+    } in
+    least-found (configOf h) v first firsts (total-all (configOf h) v (ends-kept h k) ∙ total-kept h k ∙ sym (g .total-is))
+  where
+    total-kept' : keeps (h .n) (h .starts) ≡ true → sum (h .n) (λ i. getD (configOf h .starts) i 0) ≡ weight h
+    total-kept' k = sum-same (h .n) _ (entry h) (λ i l. start-kept h k i (omega (arith, kept-told h k .few)))
 
 -- ---- what a call can have
 

@@ -31,6 +31,10 @@ leastAnswer c = judged (validOf c) c (Number.Value (leastOf c)) Number.Refused
 unfoldable pub aboveAnswer : Config → ℤ → Decision
 aboveAnswer c w = judged (validOf c) c (decide (aboveOf c w)) Decision.Refused
 
--- a cluster of what a call is given: the number, and beside a refusal nothing but zeros
+-- a number beside nothing but zeros
+abbrev pub configRefused : ℕ → ConfigAnswer
+configRefused k = record { number = k; least = 0; config = noConfig }
+
+-- a cluster of what a call is given, with its least weight above the floor, or the number of what is wrong
 unfoldable pub configAnswer : House → ConfigAnswer
-configAnswer h = record { number = houseFault h; config = cond (eqb (houseFault h) 0) (configOf h) noConfig }
+configAnswer h = cond (eqb (houseFault h) 0) (record { number = 0; least = leastOf (configOf h); config = configOf h }) (configRefused (houseFault h))

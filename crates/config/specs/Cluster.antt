@@ -69,6 +69,16 @@ startsAbove c = all (c .n) (λ i. aboveOf c (pos (startOf c i)))
 unfoldable pub lawfulOf : Config → Bool
 lawfulOf c = cond (validOf c) (cond (endsOf c) (cond (leb (totalOf c) mostWeight) (startsAbove c) false) false) false
 
+-- the least weight above the floor of a lawful cluster, and 0 of any other
+unfoldable pub leastIf : Config → ℕ
+leastIf c = cond (lawfulOf c) (leastOf c) 0
+
+-- the same by n and f within bounds and by what n start weights with nothing after them come to: their sum and the least of them
+unfoldable pub leastBy : ℕ → ℕ → ℕ → ℕ → ℕ
+leastBy n f total lowest =
+    let least = total / (2 * (n - f)) + 1 in
+    cond (leb total mostWeight) (cond (leb least lowest) least 0) 0
+
 -- What is wrong with a cluster: 1 for n and f, 15 for the start weights, 0 for nothing.
 unfoldable pub clusterFault : Config → ℕ
 clusterFault c = cond (validOf c) (cond (lawfulOf c) 0 15) 1

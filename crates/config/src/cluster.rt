@@ -9,7 +9,7 @@ ghost use lib.IntN.{pos};
 ghost use lib.Signed.{ltZ};
 ghost use lib.ListN.{length, getD};
 ghost use Rattle.quorums.specs.Sum.{sum};
-ghost use Rattle.config.specs.Cluster.{validOf, serverOf, startOf, lawfulOf, clusterFault, whyOf, clusterOf, stampBytes, mostStamp};
+ghost use Rattle.config.specs.Cluster.{inBounds, validOf, serverOf, startOf, lawfulOf, leastIf, leastBy, clusterFault, whyOf, clusterOf, stampBytes, mostStamp};
 ghost use Rattle.config.specs.Firsts.{Firsts};
 ghost use Rattle.config.specs.Answers.{decide, startAnswer, totalAnswer, leastAnswer, aboveAnswer};
 
@@ -32,18 +32,7 @@ impl Config {
     pub fn valid(self) -> bool
         ensures { λ r. ⌜ r ≡ validOf self ⌝ }
     {
-        let n = self.n;
-        let f = self.f;
-        if n < 1 {
-            return false;
-        }
-        if MOST_SERVERS < n {
-            return false;
-        }
-        if n <= f {
-            return false;
-        }
-        2 * f < n
+        in_bounds(self.n, self.f)
     }
 
     // Whether n and f are within bounds and `server` is a server of the cluster.
@@ -121,10 +110,11 @@ impl Config {
     pub fn least(self) -> Number
         ensures { λ r. ⌜ r ≡ leastAnswer self ⌝ }
     {
-        if !self.valid() {
-            return Number::Refused(Refusal::BadHouse);
+        let least = least_lent(self.n, self.f, &self.starts);
+        if least == 0 {
+            return Number::Refused(self.refusal());
         }
-        least_in(self.n, self.f, &self.starts)
+        Number::Value(least)
     }
 
     // Why a cluster is refused that is not lawful: 1 for n and f, 15 for the start weights.
@@ -146,6 +136,22 @@ impl Config {
             Number::Refused(r) => Decision::Refused(r),
         }
     }
+}
+
+// Whether n and f are within bounds.
+pub(crate) fn in_bounds(n: u64, f: u64) -> bool
+    ensures { λ r. ⌜ r ≡ inBounds n f ⌝ }
+{
+    if n < 1 {
+        return false;
+    }
+    if MOST_SERVERS < n {
+        return false;
+    }
+    if n <= f {
+        return false;
+    }
+    2 * f < n
 }
 
 // Whether a weight is no less than another.
@@ -170,23 +176,35 @@ fn start_in(starts: &[u16], server: u64) -> u64
     wide(starts[server as usize]) as u64
 }
 
-// The least weight above the floor of n servers, of which f may crash, by their start weights: 15 where these are not lawful.
-fn least_in(n: u64, f: u64, starts: &[u16]) -> Number
-    requires { ⌜ (length (now starts) ≡ 16) × (validOf (clusterOf n f (now starts)) ≡ true) ⌝ }
-    ensures { λ r. ⌜ r ≡ leastAnswer (clusterOf n f (now (starts .entry))) ⌝ }
+// The least weight above the floor of a cluster whose start weights are lent, wherever they lie; 0, which is no such weight, where it is not lawful. What tests
+// a cluster and goes on with that weight calls this: a copy of the cluster and an answer in memory would take a good part of the time of the test.
+pub fn least_lent(n: u64, f: u64, starts: &[u16; 16]) -> u64
+    ensures { λ r. ⌜ r ≡ leastIf (clusterOf n f (now (starts .entry))) ⌝ }
 {
+    if !in_bounds(n, f) {
+        return 0;
+    }
     let first = first_of(starts, n as usize);
     if sum_of(starts) != first.total {
-        return Number::Refused(Refusal::BadStart);
+        return 0;
     }
-    if MOST_WEIGHT < first.total as u64 {
-        return Number::Refused(Refusal::BadStart);
+    least_by(n, f, first.total, first.lowest)
+}
+
+// The same by the sum and the least of n start weights, after which there is nothing: 0 where the sum passes 16,000 or the least isn't above the floor.
+pub(crate) fn least_by(n: u64, f: u64, total: u32, lowest: u32) -> u64
+    requires { ⌜ inBounds n f ≡ true ⌝ }
+    ensures { λ r. ⌜ r ≡ leastBy n f total lowest ⌝ }
+{
+    let total = total as u64;
+    if MOST_WEIGHT < total {
+        return 0;
     }
-    let least = (first.total as u64) / (2 * (n - f)) + 1;
-    if (first.lowest as u64) < least {
-        return Number::Refused(Refusal::BadStart);
+    let least = total / (2 * (n - f)) + 1;
+    if (lowest as u64) < least {
+        return 0;
     }
-    Number::Value(least)
+    least
 }
 
 // The sum and the least of the first n of 16 start weights.
@@ -211,7 +229,7 @@ fn first_of(starts: &[u16], n: usize) -> First
     First { total, lowest }
 }
 
-fn lower(a: u32, b: u32) -> u32
+pub(crate) fn lower(a: u32, b: u32) -> u32
     ensures { λ r. ⌜ r ≡ min a b ⌝ }
 {
     if a < b {

@@ -12,4 +12,5 @@ pub use answer::Verdict;
 pub use cluster::Config;
 pub use cluster::MOST_SERVERS;
 pub use cluster::MOST_WEIGHT;
+pub use cluster::least_lent;
 pub use list::ConfigAnswer;

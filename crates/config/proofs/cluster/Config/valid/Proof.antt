@@ -1,33 +1,15 @@
--- `valid` meets its contract: f ≥ n is out of bounds too, so that 2f does not wrap.
-use Prim.Native.Nat.{_*_, _≤_}
-use native.Mathlib.Omega.{arith}
+-- `valid` meets its contract: it is the test of n and f.
 use borrow.Author.Needs.{needs}
-use borrow.Author.Tests.{le-ltb, lt-leb, le-leb}
 use Rattle.config.specs.Cluster.{validOf}
 use Rattle.config.proofs.cluster.Config.valid.Statement.{statement}
 use Rattle.config.proofs.cluster.Config.valid.Tie as tie
 
+in-bounds-requires : tie.Need-in-bounds-requires
+in-bounds-requires c κs = search needs
+
 returns : tie.Need-returns
 unfolding validOf
-returns c = simp (lt-leb _ _ (c .if1 .taken))
-
-returns-2 : tie.Need-returns-2
-unfolding validOf
-returns-2 c = simp (le-leb _ _ (c .before .if1 .left), lt-leb _ _ (c .if2 .taken))
-
-returns-3 : tie.Need-returns-3
-unfolding validOf
-returns-3 c =
-    let a = c .before .before .before .args .self in
-    let h : a .n ≤ 2 * a .f = omega arith in
-    simp (le-leb _ _ (c .before .before .if1 .left), le-leb _ _ (c .before .if2 .left), le-ltb _ _ h)
-
-mul-result : tie.Need-mul-result
-mul-result c = search needs
-
-returns-4 : tie.Need-returns-4
-unfolding validOf
-returns-4 c = simp (le-leb _ _ (c .before .before .if1 .left), le-leb _ _ (c .before .if2 .left))
+returns c = c .in-bounds .ensures
 
 pub valid-spec : {M : Type 1} → statement M
-valid-spec = tie.close (tie.spec returns returns-2 returns-3 mul-result returns-4)
+valid-spec = tie.close (tie.spec in-bounds-requires returns)
