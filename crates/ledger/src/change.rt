@@ -3,9 +3,9 @@ use super::ledger::Changed;
 use super::ledger::Ledger;
 use super::sums::weigh;
 use config::Config;
-use config::Number;
 use config::Refusal;
 use config::Verdict;
+use config::least_lent;
 ghost use mathlib.Core.Path.{_≡_};
 ghost use Prim.Native.Nat.{_+_, _*_, _-_, _≤_, _<_};
 ghost use lib.Dec.{leb};
@@ -73,25 +73,34 @@ fn put(counts: &mut [u16], cells: &mut [u32], giver: usize, taker: usize, amount
 
 // The tests of a transfer, by the sums that the record test leaves.
 fn may_add(
-    counts: &[u16],
-    cells: &[u32],
+    counts: &[u16; 16],
+    cells: &[u32; 256],
     config: Config,
     giver: u64,
     taker: u64,
     amount: u64,
 ) -> Verdict
-    requires { ⌜ (length (now counts) ≡ 16) × (length (now cells) ≡ 256) ⌝ }
     ensures { λ r. ⌜ r ≡ heldAnswer config (ledgerOf (now (counts .entry)) (now (cells .entry))) giver taker amount .verdict ⌝ }
 {
     if !config.has(giver) {
         return Verdict::Refused(Refusal::BadHouse);
     }
-    let Number::Value(least) = config.least() else {
+    let least = least_lent(config.n, config.f, &config.starts);
+    if least == 0 {
         return Verdict::Refused(Refusal::BadHouse);
-    };
+    }
     let mut received: [u64; 16] = [0; 16];
     let mut given: [u64; 16] = [0; 16];
-    let Verdict::Accepted = weigh(counts, cells, config, least, &mut received, &mut given) else {
+    let Verdict::Accepted = weigh(
+        counts,
+        cells,
+        config.n,
+        config.f,
+        &config.starts,
+        least,
+        &mut received,
+        &mut given,
+    ) else {
         return Verdict::Refused(Refusal::BadHouse);
     };
     let i = giver as usize;

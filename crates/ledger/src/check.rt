@@ -9,6 +9,7 @@ use config::MOST_WEIGHT;
 use config::Number;
 use config::Refusal;
 use config::Verdict;
+use config::least_lent;
 ghost use mathlib.Core.Path.{_≡_};
 ghost use mathlib.Core.Bool.{true};
 ghost use mathlib.Core.List.{[]};
@@ -51,12 +52,22 @@ fn check_held<'a>(counts: &'a [u16; 16], cells: &'a [u32; 256], config: Config) 
 pub fn check_lent(counts: &[u16; 16], cells: &[u32; 256], config: Config) -> Verdict
     ensures { λ r. ⌜ r ≡ checkAnswer config (ledgerOf (now (counts .entry)) (now (cells .entry))) ⌝ }
 {
-    let Number::Value(least) = config.least() else {
+    let least = least_lent(config.n, config.f, &config.starts);
+    if least == 0 {
         return Verdict::Refused(config.refusal());
-    };
+    }
     let mut received: [u64; 16] = [0; 16];
     let mut given: [u64; 16] = [0; 16];
-    weigh(counts, cells, config, least, &mut received, &mut given)
+    weigh(
+        counts,
+        cells,
+        config.n,
+        config.f,
+        &config.starts,
+        least,
+        &mut received,
+        &mut given,
+    )
 }
 
 // Whether the counts and cells that are lent are within range.

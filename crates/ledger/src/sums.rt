@@ -6,15 +6,15 @@ use super::ledger::wide16;
 use super::map::names;
 use config::Config;
 use config::MOST_WEIGHT;
-use config::Number;
 use config::Refusal;
 use config::Verdict;
+use config::least_lent;
 ghost use mathlib.Core.Path.{_≡_};
 ghost use mathlib.Core.Bool.{true};
 ghost use Prim.Native.Nat.{_+_, _*_, _≤_, _<_};
 ghost use lib.ListN.{length, getD, replicate};
 ghost use Rattle.quorums.specs.Sum.{sum};
-ghost use Rattle.config.specs.Cluster.{validOf, lawfulOf, leastOf};
+ghost use Rattle.config.specs.Cluster.{clusterOf, validOf, lawfulOf, leastOf};
 ghost use Rattle.config.specs.declared.answer.Verdict.{Verdict as VerdictOf};
 ghost use Rattle.ledger.specs.Ledgers.{ledgerOf};
 ghost use Rattle.quorums.specs.Accounts.{margin};
@@ -34,15 +34,25 @@ pub struct Weighed {
 pub fn weigh_lent(counts: &[u16; 16], cells: &[u32; 256], config: Config, map: u16) -> Weighed
     ensures { λ r. ⌜ r ≡ weighedOf config (ledgerOf (now (counts .entry)) (now (cells .entry))) map ⌝ }
 {
-    let Number::Value(least) = config.least() else {
+    let least = least_lent(config.n, config.f, &config.starts);
+    if least == 0 {
         return unweighed(config.refusal());
-    };
+    }
     let mut received: [u64; 16] = [0; 16];
     let mut given: [u64; 16] = [0; 16];
-    match weigh(counts, cells, config, least, &mut received, &mut given) {
+    match weigh(
+        counts,
+        cells,
+        config.n,
+        config.f,
+        &config.starts,
+        least,
+        &mut received,
+        &mut given,
+    ) {
         Verdict::Accepted => Weighed {
             verdict: Verdict::Accepted,
-            margin: margin_of(config, &received, &given, map),
+            margin: margin_of(config.n, config.f, &config.starts, &received, &given, map),
         },
         Verdict::Refused(r) => unweighed(r),
     }
@@ -59,22 +69,25 @@ fn unweighed(refusal: Refusal) -> Weighed
 }
 
 // The first fault of a ledger of a lawful cluster, whose least weight above the floor is `least`: 4 for a count or cell out of range, 5 for a weight not
-// above the floor. Where there is none, two lists of zeros have what each server received and gave.
+// above the floor. Where there is none, two lists of zeros have what each server received and gave. The cluster comes as its parts, with the start weights lent,
+// and the ledger as whole arrays: so a call of this makes no copy, and hands over places alone.
 pub(crate) fn weigh(
-    counts: &[u16],
-    cells: &[u32],
-    config: Config,
+    counts: &[u16; 16],
+    cells: &[u32; 256],
+    n: u64,
+    f: u64,
+    starts: &[u16; 16],
     least: u64,
     received: &mut [u64],
     given: &mut [u64],
 ) -> Verdict
-    requires { ⌜ (length (now counts) ≡ 16) × (length (now cells) ≡ 256) × (lawfulOf config ≡ true) × (least ≡ leastOf config) × (now received ≡ replicate 16 0) × (now given ≡ replicate 16 0) ⌝ }
-    ensures { λ r. ⌜ (r ≡ fitAnswer config (ledgerOf (now (counts .entry)) (now (cells .entry)))) × (r ≡ VerdictOf.Accepted → Weighs config (ledgerOf (now (counts .entry)) (now (cells .entry))) (now (received .exit)) (now (given .exit))) ⌝ }
+    requires { ⌜ (lawfulOf (clusterOf n f (now starts)) ≡ true) × (least ≡ leastOf (clusterOf n f (now starts))) × (now received ≡ replicate 16 0) × (now given ≡ replicate 16 0) ⌝ }
+    ensures { λ r. ⌜ (r ≡ fitAnswer (clusterOf n f (now (starts .entry))) (ledgerOf (now (counts .entry)) (now (cells .entry)))) × (r ≡ VerdictOf.Accepted → Weighs (clusterOf n f (now (starts .entry))) (ledgerOf (now (counts .entry)) (now (cells .entry))) (now (received .exit)) (now (given .exit))) ⌝ }
 {
-    if faults(counts, cells, config.n, received, given) != 0 {
+    if faults(counts, cells, n, received, given) != 0 {
         return Verdict::Refused(Refusal::OddField);
     }
-    if !above(config, least, received, given) {
+    if !above(n, f, starts, least, received, given) {
         return Verdict::Refused(Refusal::Light);
     }
     Verdict::Accepted
@@ -208,14 +221,14 @@ fn under(a: u64, b: u64) -> u64
 }
 
 // Whether every weight is above the floor, where `least` is the least that is.
-fn above(config: Config, least: u64, received: &[u64], given: &[u64]) -> bool
-    requires { ⌜ (lawfulOf config ≡ true) × (least ≡ leastOf config) × Sums 68719476720 (now received) × Sums 68719476720 (now given) ⌝ }
-    ensures { λ r. ⌜ r ≡ allAbove config (now (received .entry)) (now (given .entry)) ⌝ }
+fn above(n: u64, f: u64, starts: &[u16], least: u64, received: &[u64], given: &[u64]) -> bool
+    requires { ⌜ (length (now starts) ≡ 16) × (lawfulOf (clusterOf n f (now starts)) ≡ true) × (least ≡ leastOf (clusterOf n f (now starts))) × Sums 68719476720 (now received) × Sums 68719476720 (now given) ⌝ }
+    ensures { λ r. ⌜ r ≡ allAbove (clusterOf n f (now (starts .entry))) (now (received .entry)) (now (given .entry)) ⌝ }
 {
-    let n = config.n as usize;
+    let end = n as usize;
     let mut i: usize = 0;
-    while i < n {
-        if wide16(config.starts[i]) + received[i] < given[i] + least {
+    while i < end {
+        if wide16(starts[i]) + received[i] < given[i] + least {
             return false;
         }
         i += 1;
@@ -224,17 +237,17 @@ fn above(config: Config, least: u64, received: &[u64], given: &[u64]) -> bool
 }
 
 // Twice the weight of the servers that a map names, less W: twice what they hold, less twice what they gave and W.
-fn margin_of(config: Config, received: &[u64], given: &[u64], map: u16) -> i64
-    requires { ⌜ (validOf config ≡ true) × Sums 68719476720 (now received) × Sums 68719476720 (now given) ⌝ }
-    ensures { λ r. ⌜ r ≡ margin (config .n) (accountsIn config (now (received .entry)) (now (given .entry))) (named map) ⌝ }
+fn margin_of(n: u64, f: u64, starts: &[u16], received: &[u64], given: &[u64], map: u16) -> i64
+    requires { ⌜ (length (now starts) ≡ 16) × (validOf (clusterOf n f (now starts)) ≡ true) × Sums 68719476720 (now received) × Sums 68719476720 (now given) ⌝ }
+    ensures { λ r. ⌜ r ≡ margin n (accountsIn (clusterOf n f (now (starts .entry))) (now (received .entry)) (now (given .entry))) (named map) ⌝ }
 {
-    let n = config.n as usize;
+    let end = n as usize;
     let mut total: u64 = 0;
     let mut held: u64 = 0;
     let mut gave: u64 = 0;
     let mut i: usize = 0;
-    while i < n {
-        let start = wide16(config.starts[i]);
+    while i < end {
+        let start = wide16(starts[i]);
         total += start;
         if names(map, i as u64) {
             held = held + start + received[i];

@@ -15,7 +15,7 @@ use Rattle.ledger.proofs.change.add_lent.Statement.{statement}
 use Rattle.ledger.proofs.change.add_lent.Tie as tie
 
 abbrev start : tie.After-may-add → tie.Start
-start c = c .before .before .before .before .before
+start c = c .before .before .before
 
 abbrev passed : tie.After-put-arg2 → tie.After-enum-told
 passed c = c .before .before

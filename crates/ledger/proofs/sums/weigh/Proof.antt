@@ -4,6 +4,8 @@ use mathlib.Core.Bool.{true}
 use borrow.Author.Needs.{needs}
 use borrow.Author.Tests.{eq-eqb, ne-eqb, not-true, not-false}
 use lib.Dec.{eqb}
+use Rattle.config.specs.Cluster.{clusterOf}
+use Rattle.config.specs.declared.cluster.Config.{Config}
 use Rattle.config.proofs.Clusters.{lawful-valid, lawful-bounds}
 use Rattle.ledger.specs.declared.ledger.Ledger.{Ledger}
 use Rattle.ledger.specs.Ledgers.{ledgerOf}
@@ -20,36 +22,39 @@ use Rattle.ledger.proofs.sums.weigh.Tie as tie
 abbrev ledger : tie.Start → Ledger
 ledger s = ledgerOf (s .args .counts .now) (s .args .cells .now)
 
+abbrev cluster : tie.Start → Config
+cluster s = clusterOf (s .args .n) (s .args .f) (s .args .starts .now)
+
 abbrev start : tie.After-faults → tie.Start
 start c = c .before .before .before .before .before .before .before
 
 abbrev counted : tie.After-slice-known4 → tie.After-faults
 counted c = c .before .before .before .before
 
-abbrev tested : tie.After-above-arg2 → tie.Else1
-tested c = c .before .before
+abbrev tested : tie.After-above-arg3 → tie.Else1
+tested c = c .before .before .before
 
 -- ---- what each test tells
 
-range : (c : tie.After-slice-known4) → bounded (start (counted c) .args .config) (ledger (start (counted c))) ≡ eqb (counted c .faults .result) 0
+range : (c : tie.After-slice-known4) → bounded (cluster (start (counted c))) (ledger (start (counted c))) ≡ eqb (counted c .faults .result) 0
 range c =
     let s = start (counted c) in
-    sym (faults-bounded (s .args .config) (ledger s) (lawful-bounds _ (s .pre .2) .most)) ∙ ap (λ k. eqb k 0) (sym (counted c .faults .ensures .0))
+    sym (faults-bounded (cluster s) (ledger s) (lawful-bounds _ (s .pre .0) .most)) ∙ ap (λ k. eqb k 0) (sym (counted c .faults .ensures .0))
 
-bounds : (c : tie.Else1) → bounded (start (counted (c .before)) .args .config) (ledger (start (counted (c .before)))) ≡ true
+bounds : (c : tie.Else1) → bounded (cluster (start (counted (c .before)))) (ledger (start (counted (c .before)))) ≡ true
 bounds c = range (c .before) ∙ eq-eqb _ 0 (c .if1 .left)
 
-sums : (c : tie.Else1) → Weighs (start (counted (c .before)) .args .config) (ledger (start (counted (c .before))))
+sums : (c : tie.Else1) → Weighs (cluster (start (counted (c .before)))) (ledger (start (counted (c .before))))
     (counted (c .before) .faults .last .1 .1 .1 .0) (counted (c .before) .faults .last .1 .1 .1 .1 .0)
 sums c =
     let f = counted (c .before) in
     let e = f .faults .ensures in
-    weighs (start f .args .config) (ledger (start f)) _ _ (lawful-valid _ (start f .pre .2)) (bounds c) (e .1) (e .2) (e .3) (e .4)
+    weighs (cluster (start f)) (ledger (start f)) _ _ (lawful-valid _ (start f .pre .0)) (bounds c) (e .1) (e .2) (e .3) (e .4)
 
 faults-requires : tie.Need-faults-requires
 faults-requires c κs =
-    let p = c .before .before .before .before .before .before .pre in
-    (p .0, p .1, lawful-bounds _ (p .2) .most, p .4, p .5)
+    let s = c .before .before .before .before .before .before in
+    (search needs, search needs, lawful-bounds (cluster s) (s .pre .0) .most, s .pre .2, s .pre .3)
 
 same-length : tie.Need-same-length
 same-length c = search needs
@@ -66,7 +71,7 @@ above-requires c κs =
     let f = counted (tested c .before) in
     let p = start f .pre in
     let e = f .faults .ensures in
-    (p .2, p .3, e .3, e .4)
+    (search needs, p .0, p .1, e .3, e .4)
 
 same-length-3 : tie.Need-same-length-3
 same-length-3 c = search needs
@@ -75,7 +80,7 @@ same-length-4 : tie.Need-same-length-4
 same-length-4 c = search needs
 
 -- what the last test tells
-floor : (c : tie.After-above) → aboveFloor (start (counted (tested (c .before) .before)) .args .config) (ledger (start (counted (tested (c .before) .before)))) ≡ c .above .result
+floor : (c : tie.After-above) → aboveFloor (cluster (start (counted (tested (c .before) .before)))) (ledger (start (counted (tested (c .before) .before)))) ≡ c .above .result
 floor c = sym (c .above .ensures ∙ weighs-above _ _ _ _ (sums (tested (c .before))))
 
 returns-2 : tie.Need-returns-2

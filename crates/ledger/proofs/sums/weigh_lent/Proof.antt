@@ -4,7 +4,7 @@ use mathlib.Core.Bool.{true}
 use borrow.Author.Needs.{needs}
 use lib.IntN.{ℤ}
 use Rattle.config.specs.Cluster.{lawfulOf, leastOf}
-use Rattle.config.proofs.Clusters.{lawful-valid, least-told, least-refused, why-fault}
+use Rattle.config.proofs.Clusters.{lawful-valid, least-if-told, least-if-none, why-fault}
 use Rattle.config.specs.declared.answer.Verdict.{Verdict}
 use Rattle.ledger.specs.declared.ledger.Ledger.{Ledger}
 use Rattle.ledger.specs.declared.sums.Weighed.{Weighed}
@@ -22,10 +22,10 @@ weighing v y = record { verdict = v; margin = y }
 
 -- ---- the way back from each test
 
-abbrev start : tie.After-known-told → tie.Start
+abbrev start : tie.Else1 → tie.Start
 start c = c .before .before .before .before
 
-abbrev known : tie.After-weigh → tie.After-known-told
+abbrev known : tie.After-weigh → tie.Else1
 known c = c .before .before .before .before .before
 
 abbrev entry : tie.After-weigh → tie.Start
@@ -34,20 +34,14 @@ entry c = start (known c)
 abbrev ledger : tie.Start → Ledger
 ledger s = ledgerOf (s .args .counts .now) (s .args .cells .now)
 
-abbrev weighed : tie.After-enum-told2 → tie.After-weigh
+abbrev weighed : tie.After-enum-told → tie.After-weigh
 weighed c = c .before .before .before .before
 
-abbrev accepting : tie.After-given3 → tie.After-enum-told2
-accepting c = c .before .before
+abbrev accepting : tie.After-given3 → tie.After-enum-told
+accepting c = c .before .before .before .before .before
 
-least-requires : tie.Need-least-requires
-least-requires c κs = search needs
-
-enum-known-least : tie.Need-enum-known-least
-enum-known-least c = search needs
-
-enum-told : tie.Need-enum-told
-enum-told c = search needs
+least-lent-requires : tie.Need-least-lent-requires
+least-lent-requires c κs = search needs
 
 refusal-requires : tie.Need-refusal-requires
 refusal-requires c κs = search needs
@@ -58,13 +52,16 @@ unweighed-requires c κs = search needs
 returns : tie.Need-returns
 unfolding weighedOf
 returns c =
-    let r = c .before in
-    let out = least-refused _ _ (sym (r .before .before .before .least .ensures) ∙ r .before .enum-told .given .1) .0 in
-    c .unweighed .ensures ∙ ap unweighedOf (r .refusal .ensures ∙ why-fault _ out) ∙ rw (check-unlawful _ (ledger (r .before .before .before .before)) out) refl
+    let t = c .before .before in
+    let out = least-if-none _ (sym (t .before .least-lent .ensures) ∙ t .if1 .taken) in
+    c .unweighed .ensures ∙ ap unweighedOf (c .before .refusal .ensures ∙ why-fault _ out) ∙ rw (check-unlawful _ (ledger (t .before .before .before .before)) out) refl
 
 -- the least weight is told
-least : (c : tie.After-known-told) → (lawfulOf (start c .args .config) ≡ true) × (c .before .least2 .given .0 .0 ≡ leastOf (start c .args .config))
-least c = least-told _ _ (sym (c .before .before .before .least .ensures) ∙ c .before .least2 .given .1)
+least : (c : tie.Else1) → (lawfulOf (start c .args .t3) ≡ true) × (c .before .least-lent .result ≡ leastOf (start c .args .t3))
+least c =
+    let e = c .before .least-lent .ensures in
+    let t = least-if-told _ (λ none. c .if1 .left (e ∙ none)) in
+    (t .0, e ∙ t .1)
 
 slice-aggregate-weigh : tie.Need-slice-aggregate-weigh
 slice-aggregate-weigh c = search needs
@@ -73,19 +70,19 @@ slice-aggregate-weigh-2 : tie.Need-slice-aggregate-weigh-2
 slice-aggregate-weigh-2 c = search needs
 
 weigh-requires : tie.Need-weigh-requires
-weigh-requires c κs = let k = least (c .before .before .before .before) in (search needs, search needs, k .0, k .1, search needs, search needs)
+weigh-requires c κs = let k = least (c .before .before .before .before) in (k .0, k .1, search needs, search needs)
 
-enum-told-2 : tie.Need-enum-told-2
-enum-told-2 c = search needs
+enum-told : tie.Need-enum-told
+enum-told c = search needs
 
 -- what the test tells
 
-check : (c : tie.After-weigh) → checkAnswer (entry c .args .config) (ledger (entry c)) ≡ c .weigh .result
+check : (c : tie.After-weigh) → checkAnswer (entry c .args .t3) (ledger (entry c)) ≡ c .weigh .result
 check c = check-lawful _ _ (least (known c) .0) ∙ sym (c .weigh .ensures .0)
 
-sums : (c : tie.After-enum-told2)
-    → Weighs (entry (weighed c) .args .config) (ledger (entry (weighed c))) (weighed c .weigh .last .1 .1 .1 .1 .0) (weighed c .weigh .last .1 .1 .1 .1 .1 .0)
-sums c = weighed c .weigh .ensures .1 (c .enum-told2 .given .1)
+sums : (c : tie.After-enum-told)
+    → Weighs (entry (weighed c) .args .t3) (ledger (entry (weighed c))) (weighed c .weigh .last .1 .1 .1 .1 .1 .1 .0) (weighed c .weigh .last .1 .1 .1 .1 .1 .1 .1 .0)
+sums c = weighed c .weigh .ensures .1 (c .enum-told .given .1)
 
 slice-aggregate-margin-of : tie.Need-slice-aggregate-margin-of
 slice-aggregate-margin-of c = search needs
@@ -96,7 +93,7 @@ slice-aggregate-margin-of-2 c = search needs
 margin-of-requires : tie.Need-margin-of-requires
 margin-of-requires c κs =
     let t = accepting c in
-    (lawful-valid _ (least (known (weighed t)) .0), sums t .takes-small, sums t .gives-small)
+    (search needs, lawful-valid _ (least (known (weighed t)) .0), sums t .takes-small, sums t .gives-small)
 
 enum-known-r : tie.Need-enum-known-r
 enum-known-r c = search needs
@@ -109,7 +106,7 @@ unfolding weighedOf
 returns-2 c =
     let t = accepting (c .before) in
     let exact = read-back (c .margin-of .result) (c .margin-of .ok) ∙ c .margin-of .ensures ∙ weighs-margin _ _ _ _ _ (sums t) in
-    rw (check (weighed t) ∙ t .enum-told2 .given .1) (ap (λ y. weighing Verdict.Accepted y) exact)
+    rw (check (weighed t) ∙ t .enum-told .given .1) (ap (λ y. weighing Verdict.Accepted y) exact)
 
 returns-3 : tie.Need-returns-3
 unfolding weighedOf
@@ -121,16 +118,14 @@ pub weigh-lent-spec : {M : Type 1} → statement M
 weigh-lent-spec =
     tie.close
     (tie.spec
-    least-requires
-    enum-known-least
-    enum-told
+    least-lent-requires
     refusal-requires
     unweighed-requires
     returns
     slice-aggregate-weigh
     slice-aggregate-weigh-2
     weigh-requires
-    enum-told-2
+    enum-told
     slice-aggregate-margin-of
     slice-aggregate-margin-of-2
     margin-of-requires
