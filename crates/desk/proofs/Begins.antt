@@ -3,7 +3,7 @@
 -- desk hands back those.
 use Prim.Native.Nat.{ℕ, suc, _≤_, _<_}
 use native.Mathlib.Omega.{arith}
-use mathlib.Core.Path.{_≡_, refl, sym, ap, _∙_}
+use mathlib.Core.Path.{_≡_, refl, sym, ap₂, _∙_}
 use mathlib.Core.Bool.{Bool, true, false, cond}
 use mathlib.Core.List.{List}
 use borrow.Author.Tests.{eqb-true, leb-true, ltb-true, lt-leb, le-leb, eq-eqb}
@@ -18,12 +18,11 @@ use Rattle.replica.specs.declared.value.Value.{Value}
 use Rattle.replica.specs.Values.{valueFits, valueOf, Typed as TypedValue}
 use Rattle.replica.proofs.Values.{value-fits, value-typed}
 use Rattle.replica.proofs.Registers.{start-typed, start-fits}
-use Rattle.desk.specs.declared.begin.Turned.{Turned}
 use Rattle.desk.specs.declared.record.Desk.{Desk}
 use Rattle.desk.specs.declared.record.DeskAnswer.{DeskAnswer}
 use Rattle.desk.specs.Operations.{running, reading, writing, noOperation, begunOperation, phaseLawful}
 use Rattle.desk.specs.Desks.{mostRound, fits, accepted, refused, Typed}
-use Rattle.desk.specs.Begins.{begun, startOf, beginOf, dropped, dropOf, turnedOf, answerOf, unturned}
+use Rattle.desk.specs.Begins.{begun, startOf, beginOf, dropped, dropOf, turnedOf, answerOf, begunOf}
 use Rattle.desk.proofs.Operations.{told-operation, mode-later, kind-fits, none-answered, none-fits, none-typed}
 use Rattle.desk.proofs.Desks.{fits-told, told-fits, fits-valid}
 
@@ -86,19 +85,19 @@ drop-idle x =
 -- ---- the parts that change
 
 -- an operation that may begin does so before the last round
-pub begin-turned : (x : Desk) (kind : ℕ) (v : List ℕ) (note : ℕ) → beginOf x kind v note .verdict ≡ Verdict.Accepted
-    → (turnedOf (beginOf x kind v note) ≡ turnedOf (accepted (begun x kind (valueOf v) note))) × (x .round < mostRound)
-begin-turned x kind v note =
-    begin-cases
-    (λ (a : DeskAnswer).
-    a .verdict ≡ Verdict.Accepted → (turnedOf a ≡ turnedOf (accepted (begun x kind (valueOf v) note))) × (x .round < mostRound)) x kind v note
-    (λ n e. accepted-not-refused n (sym e)) (λ l r e. (refl, r))
+pub begin-early : (x : Desk) (kind : ℕ) (v : List ℕ) (note : ℕ) → beginOf x kind v note .verdict ≡ Verdict.Accepted → x .round < mostRound
+begin-early x kind v note =
+    begin-cases (λ (a : DeskAnswer). a .verdict ≡ Verdict.Accepted → x .round < mostRound) x kind v note
+    (λ n e. accepted-not-refused n (sym e)) (λ l r e. r)
 
-pub begin-unturned : (x : Desk) (kind : ℕ) (v : List ℕ) (note : ℕ) (k : Refusal) → beginOf x kind v note .verdict ≡ Verdict.Refused k
-    → turnedOf (beginOf x kind v note) ≡ unturned k (x .round) (x .operation)
-begin-unturned x kind v note k =
-    begin-cases (λ (a : DeskAnswer). a .verdict ≡ Verdict.Refused k → turnedOf a ≡ unturned k (x .round) (x .operation)) x kind v note
-    (λ n e. ap {B = Turned} (λ w. record { verdict = w; round = x .round; operation = x .operation }) e) (λ l r e. accepted-not-refused k e)
+-- and what a begin changes follows from its verdict
+pub begin-parts : (x : Desk) (kind : ℕ) (v : List ℕ) (note : ℕ) (w : Verdict) (value : Value) → w ≡ beginOf x kind v note .verdict → value ≡ valueOf v
+    → begunOf w kind value note (x .round) (x .operation) ≡ turnedOf (beginOf x kind v note)
+unfolding begunOf
+begin-parts x kind v note w value p q =
+    ap₂ (λ (b : Verdict) (u : Value). begunOf b kind u note (x .round) (x .operation)) p q
+    ∙ begin-cases (λ (a : DeskAnswer). begunOf (a .verdict) kind (valueOf v) note (x .round) (x .operation) ≡ turnedOf a) x kind v note
+    (λ k. refl) (λ l r. refl)
 
 -- Nothing else changes: the record with the round and the operation that a call turned is the record that it hands back.
 

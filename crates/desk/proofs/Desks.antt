@@ -12,6 +12,7 @@ use Rattle.config.proofs.Houses.{none-typed as no-config-typed, given-typed, ho
 use Rattle.config.specs.Refusals.{refusal}
 use Rattle.config.specs.declared.answer.Verdict.{Verdict}
 use Rattle.ledger.proofs.Checks.{accepted-not-refused}
+use Rattle.replica.specs.declared.replica.Replica.{Replica}
 use Rattle.replica.specs.Replicas.{fits as fitsReplica}
 use Rattle.replica.proofs.Replicas.{fits-told as replica-told, fresh-fits, fresh-typed}
 use Rattle.config.specs.declared.cluster.Config.{Config}
@@ -40,12 +41,16 @@ pub told-fits : (x : Desk) → Fits x → fits x ≡ true
 unfolding fits
 told-fits x t = simp (t .number-in, t .replica-fits, t .operation-fits)
 
--- what is not about the replica may be tested before it: a replica fits no cluster that is none
+-- a replica fits no cluster that is none
+pub replica-valid : (c : Config) (r : Replica) → fitsReplica c r ≡ true → validOf c ≡ true
+replica-valid c r e = lawful-valid c (replica-told c r e .lawful)
+
+-- so what is not about the replica may be tested before it
 pub sound-first : (x : Desk) → fits x ≡ cond (sound (x .config) (x .number) (x .round) (x .operation)) (fitsReplica (x .config) (x .replica)) false
 unfolding fits sound
 sound-first x =
     by-tests (numberLawful (x .number)) (validOf (x .config)) (fitsReplica (x .config) (x .replica))
-    (fitsOperation (x .config) (x .round) (x .operation)) (λ e. lawful-valid (x .config) (replica-told (x .config) (x .replica) e .lawful))
+    (fitsOperation (x .config) (x .round) (x .operation)) (replica-valid (x .config) (x .replica))
   where
     by-tests : (n v r o : Bool) → (r ≡ true → v ≡ true) → cond n (cond r o false) false ≡ cond (cond n (cond v o false) false) r false
     by-tests true true true true h = refl
@@ -55,6 +60,16 @@ sound-first x =
     by-tests true false true o h = absurd (false≢true (h refl))
     by-tests true false false o h = refl
     by-tests false v r o h = refl
+
+-- and the replica before the rest
+pub replica-first : (x : Desk) → fits x ≡ cond (fitsReplica (x .config) (x .replica)) (sound (x .config) (x .number) (x .round) (x .operation)) false
+replica-first x = sound-first x ∙ by-tests (sound (x .config) (x .number) (x .round) (x .operation)) (fitsReplica (x .config) (x .replica))
+  where
+    by-tests : (s r : Bool) → cond s r false ≡ cond r s false
+    by-tests true true = refl
+    by-tests true false = refl
+    by-tests false true = refl
+    by-tests false false = refl
 
 pub record Sound (c : Config) (d round : ℕ) (o : Operation) : Type 0 where
   pub number-in : numberLawful d ≡ true

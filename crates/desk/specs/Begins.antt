@@ -50,3 +50,9 @@ answerOf x t = record { verdict = t .verdict; desk = turned x (t .round) (t .ope
 
 abbrev pub unturned : Refusal → ℕ → Operation → Turned
 unturned k round o = record { verdict = Verdict.Refused k; round = round; operation = o }
+
+-- what a verdict on a begin comes to: an operation begins in the next round, or all is as it was
+unfoldable pub begunOf : Verdict → ℕ → Value → ℕ → ℕ → Operation → Turned
+begunOf Verdict.Accepted kind value note round o =
+    record { verdict = Verdict.Accepted; round = suc round; operation = begunOperation kind value note }
+begunOf (Verdict.Refused k) kind value note round o = unturned k round o

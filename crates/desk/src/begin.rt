@@ -11,14 +11,15 @@ use config::Refusal;
 use config::Verdict;
 use replica::Register;
 use replica::Value;
-ghost use Prim.Native.Nat.{ℕ};
+ghost use Prim.Native.Nat.{ℕ, _<_};
 ghost use mathlib.Core.Path.{_≡_};
 ghost use mathlib.Core.List.{List, []};
+ghost use Rattle.config.specs.declared.answer.Verdict.{Verdict as VerdictOf};
 ghost use Rattle.replica.specs.Values.{valueOf};
 ghost use Rattle.desk.specs.Parts.{deskOf};
 ghost use Rattle.desk.specs.Operations.{reading, writing};
-ghost use Rattle.desk.specs.Desks.{turned as turnedDesk};
-ghost use Rattle.desk.specs.Begins.{beginOf, dropOf, turnedOf, answerOf, unturned as unturnedOf};
+ghost use Rattle.desk.specs.Desks.{mostRound, turned as turnedDesk};
+ghost use Rattle.desk.specs.Begins.{beginOf, dropOf, turnedOf, answerOf, begunOf, unturned as unturnedOf};
 
 // The last round.
 pub(crate) const MOST_ROUND: u32 = 4294967295;
@@ -145,7 +146,8 @@ pub fn begin_read_in<'a>(
 ) -> Turned
     ensures { λ r. ⌜ r ≡ turnedOf (beginOf (deskOf config number (now (counts .entry)) (now (cells .entry)) register round operation) reading [] note) ⌝ }
 {
-    begin_in(
+    let value = Value::of(b"");
+    let verdict = may_begin(
         config,
         number,
         counts,
@@ -153,10 +155,9 @@ pub fn begin_read_in<'a>(
         register,
         round,
         operation,
-        READ,
-        b"",
-        note,
-    )
+        value,
+    );
+    begun(verdict, READ, value, note, round, operation)
 }
 
 // The same of a write.
@@ -173,37 +174,8 @@ pub fn begin_write_in<'a>(
 ) -> Turned
     ensures { λ r. ⌜ r ≡ turnedOf (beginOf (deskOf config number (now (counts .entry)) (now (cells .entry)) register round operation) writing (now (value .entry)) note) ⌝ }
 {
-    begin_in(
-        config,
-        number,
-        counts,
-        cells,
-        register,
-        round,
-        operation,
-        WRITE,
-        value,
-        note,
-    )
-}
-
-// The same of either kind, with the value to be written, which for a read is empty.
-fn begin_in<'a>(
-    config: Config,
-    number: u64,
-    counts: &'a [u16; 16],
-    cells: &'a [u32; 256],
-    register: Register,
-    round: u32,
-    operation: Operation,
-    kind: u16,
-    value: &[u8],
-    note: u32,
-) -> Turned
-    ensures { λ r. ⌜ r ≡ turnedOf (beginOf (deskOf config number (now (counts .entry)) (now (cells .entry)) register round operation) kind (now (value .entry)) note) ⌝ }
-{
     let value = Value::of(value);
-    match may_begin(
+    let verdict = may_begin(
         config,
         number,
         counts,
@@ -212,14 +184,8 @@ fn begin_in<'a>(
         round,
         operation,
         value,
-    ) {
-        Verdict::Accepted => Turned {
-            verdict: Verdict::Accepted,
-            round: round + 1,
-            operation: Operation::begun(kind, value, note),
-        },
-        Verdict::Refused(r) => unturned(r, round, operation),
-    }
+    );
+    begun(verdict, WRITE, value, note, round, operation)
 }
 
 // Whether an operation with a value may begin, of whatever kind and with whatever note: 1 for the record, 14, 8, 12.
@@ -248,6 +214,29 @@ fn may_begin<'a>(
         return Verdict::Refused(Refusal::Spent);
     }
     Verdict::Accepted
+}
+
+// What a verdict on a begin makes of a record's round and operation. Where it accepts, which it never does in the last round, an operation of the kind
+// begins in the next one, with the value and the note; where it refuses, they are as they were.
+fn begun(
+    verdict: Verdict,
+    kind: u16,
+    value: Value,
+    note: u32,
+    round: u32,
+    operation: Operation,
+) -> Turned
+    requires { ⌜ (verdict ≡ VerdictOf.Accepted → round < mostRound) ⌝ }
+    ensures { λ r. ⌜ r ≡ begunOf verdict kind value note round operation ⌝ }
+{
+    match verdict {
+        Verdict::Accepted => Turned {
+            verdict: Verdict::Accepted,
+            round: round + 1,
+            operation: Operation::begun(kind, value, note),
+        },
+        Verdict::Refused(r) => unturned(r, round, operation),
+    }
 }
 
 // Drop on the parts of a record.

@@ -7,7 +7,8 @@ use replica::Register;
 use replica::Replica;
 use replica::fits_lent;
 ghost use mathlib.Core.Path.{_≡_};
-ghost use Rattle.config.specs.Cluster.{houseOf};
+ghost use mathlib.Core.Bool.{true};
+ghost use Rattle.config.specs.Cluster.{houseOf, validOf};
 ghost use Rattle.desk.specs.Parts.{deskOf};
 ghost use Rattle.desk.specs.Desks.{numberLawful, fits as fitsOf, sound, freshDesk, opens as opensOf, openOf, refused as refusedOf};
 
@@ -133,20 +134,28 @@ pub(crate) fn fits_in<'a>(
 ) -> bool
     ensures { λ r. ⌜ r ≡ fitsOf (deskOf config number (now (counts .entry)) (now (cells .entry)) register round operation) ⌝ }
 {
-    if !sound_in(config, number, round, operation) {
+    if !fits_lent(counts, cells, register, config) {
         return false;
     }
-    fits_lent(counts, cells, register, config)
+    sound_within(config, number, round, operation)
 }
 
 // What of the record test is not about the replica and the start weights: the number, n and f, and the operation.
 pub(crate) fn sound_in(config: Config, number: u64, round: u32, operation: Operation) -> bool
     ensures { λ r. ⌜ r ≡ sound config number round operation ⌝ }
 {
-    if !number_lawful(number) {
+    if !config.valid() {
         return false;
     }
-    if !config.valid() {
+    sound_within(config, number, round, operation)
+}
+
+// The same where n and f are within bounds: the number and the operation.
+fn sound_within(config: Config, number: u64, round: u32, operation: Operation) -> bool
+    requires { ⌜ validOf config ≡ true ⌝ }
+    ensures { λ r. ⌜ r ≡ sound config number round operation ⌝ }
+{
+    if !number_lawful(number) {
         return false;
     }
     operation.fits(config, round)
