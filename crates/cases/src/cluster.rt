@@ -5,7 +5,7 @@ use script::House;
 use server::Server;
 
 // Server i stands at i. Desk `numbers[k]` stands at k, and none where that is 0. Before an accepted `house` n is 0.
-#[derive(Drop)]
+#[derive(Clone, Copy)]
 pub(crate) struct Cluster {
     pub house: House,
     pub servers: [Server; 16],

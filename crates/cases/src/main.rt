@@ -1,4 +1,6 @@
 // Drives one cluster by a script: a line of standard output for each command on a line of standard input. docs/SCRIPTS.md has the commands.
+#![tactic(auto)]
+
 mod buffer;
 mod cluster;
 mod desks;

@@ -3,7 +3,7 @@ ghost use Rattle.std.specs.Prelude.{◌≡◌};
 ghost use Rattle.config.specs.Refusals.{number_of, meaning};
 
 // Why a call refuses. `number_of` gives the papers' number for each.
-#[derive(Drop)]
+#[derive(Clone, Copy)]
 pub enum Refusal {
     BadHouse,
     Torn,
@@ -23,7 +23,7 @@ pub enum Refusal {
 }
 
 // What a number stands for: the refusal that has it, or none, as with 0 and with what is above the largest.
-#[derive(Drop)]
+#[derive(Clone, Copy)]
 pub enum Meaning {
     Refusal(Refusal),
     None,
@@ -89,14 +89,14 @@ impl Refusal {
 }
 
 // Whether a call was accepted.
-#[derive(Drop)]
+#[derive(Clone, Copy)]
 pub enum Verdict {
     Accepted,
     Refused(Refusal),
 }
 
 // A yes or no.
-#[derive(Drop)]
+#[derive(Clone, Copy)]
 pub enum Decision {
     Yes,
     No,
@@ -104,14 +104,14 @@ pub enum Decision {
 }
 
 // A number that is not negative.
-#[derive(Drop)]
+#[derive(Clone, Copy)]
 pub enum Number {
     Value(u64),
     Refused(Refusal),
 }
 
 // A signed number.
-#[derive(Drop)]
+#[derive(Clone, Copy)]
 pub enum Signed {
     Value(i64),
     Refused(Refusal),

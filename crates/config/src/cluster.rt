@@ -10,7 +10,7 @@ use super::answer::{Decision, Number, Refusal};
 
 // Servers 0 to n - 1, of which f may crash, and what each weighs at the start: n start weights, then zeros.
 #[repr(C)]
-#[derive(Drop)]
+#[derive(Clone, Copy)]
 pub struct Config {
     pub n: u64,
     pub f: u64,
@@ -204,7 +204,7 @@ pub(crate) fn least_by(n: u64, f: u64, total: u32, lowest: u32) -> u64
 }
 
 // The sum and the least of the first n of 16 start weights.
-#[derive(Drop)]
+#[derive(Clone, Copy)]
 struct First {
     pub total: u32,
     pub lowest: u32,

@@ -1,4 +1,6 @@
 // The parameters of a cluster, fixed when a party is opened, and the answers that every crate above gives.
+#![tactic(auto)]
+
 mod answer;
 mod cluster;
 mod list;

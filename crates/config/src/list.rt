@@ -6,7 +6,7 @@ ghost use Rattle.config.specs.Answers.{config_answer, config_refused};
 use super::cluster::{Config, MOST_SERVERS, MOST_WEIGHT, in_bounds, least_by, lower};
 
 // A cluster with its least weight above the floor, or nothing but zeros beside the number of what is wrong with what was given: 1 for n and f, 15 for the list.
-#[derive(Drop)]
+#[derive(Clone, Copy)]
 pub struct ConfigAnswer {
     pub number: u64,
     pub least: u64,

@@ -36,7 +36,7 @@ use Rattle.desk.specs.Hearings.{parts_of, heard_of, restart_in, mark_in}
 use Rattle.desk.proofs.Desks.{fits_told, sound-first}
 use Rattle.desk.proofs.Heeded.{hear-cases}
 use Rattle.desk.proofs.Hearings.{restart-parts, restart-ledger, mark-parts, mark-ledger, hear_read}
-use Rattle.desk.proofs.Told.{hear-taken, hear-untaken}
+use Rattle.desk.proofs.ToldLemmas.{hear-taken, hear-untaken}
 
 -- ---- what is weighed
 

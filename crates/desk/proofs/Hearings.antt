@@ -36,7 +36,7 @@ use Rattle.desk.specs.Hears.{accepted, late, refused, stray_from, stray, timely_
 use Rattle.desk.specs.Hearings.{listening_from, parts_of, restart_in, choose_in, mark_in}
 use Rattle.desk.proofs.Desks.{fits_told}
 use Rattle.desk.proofs.Heeded.{waiting}
-use Rattle.desk.proofs.Told.{clash-lacking, clash-rest, fields-stray, fields-late, fields-clash, fields-larger, fields-equal}
+use Rattle.desk.proofs.ToldLemmas.{clash-lacking, clash-rest, fields-stray, fields-late, fields-clash, fields-larger, fields-equal}
 
 -- ---- what a reply does that is taken, by its parts
 

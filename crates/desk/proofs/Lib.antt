@@ -11,7 +11,7 @@ pub mod Marks
 pub mod Choices
 pub mod Heeded
 pub mod Margins
-pub mod Told
+pub mod ToldLemmas
 pub mod Hears
 pub mod Done
 pub mod Hearings

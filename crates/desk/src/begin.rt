@@ -16,7 +16,7 @@ use replica::{Register, Value};
 pub(crate) const MOST_ROUND: u32 = 4294967295;
 
 // What begin and drop hand back of the parts that they change, which are as they were where the verdict is a refusal.
-#[derive(Drop)]
+#[derive(Clone, Copy)]
 pub struct Turned {
     pub verdict: Verdict,
     pub round: u32,

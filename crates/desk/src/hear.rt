@@ -19,7 +19,7 @@ use reader::receive_lent;
 use replica::{Register, compare_lent};
 
 // What hear on the parts of a record hands back, beside its counts and cells: as they were where the reply was late or refused.
-#[derive(Drop)]
+#[derive(Clone, Copy)]
 pub struct HeardIn {
     pub hearing: Hearing,
     pub register: Register,
@@ -28,7 +28,7 @@ pub struct HeardIn {
 }
 
 // What becomes of a message: it is refused, or late, or a reply on a larger ledger than the desk's, or on an equal one.
-#[derive(Drop)]
+#[derive(Clone, Copy)]
 pub(crate) enum Listening {
     Refused(Refusal),
     Late,

@@ -1,4 +1,6 @@
 // A desk, the client of the store (paper 01, "Desk"). Its record goes in by value and comes back by value; every call tests it first.
+#![tactic(auto)]
+
 mod ask;
 mod begin;
 mod hear;

@@ -22,7 +22,7 @@ pub const WRITE: u16 = 2;
 
 // `answered` is a map of the servers that answered in the current round, `value` what is to be written, and `chosen` the register that phase 1 chose.
 #[repr(C)]
-#[derive(Drop)]
+#[derive(Clone, Copy)]
 pub struct Operation {
     pub mode: u32,
     pub note: u32,

@@ -9,7 +9,7 @@ use config::{Config, Refusal, Verdict};
 use replica::{Register, Replica, fits_lent};
 
 #[repr(C)]
-#[derive(Drop)]
+#[derive(Clone, Copy)]
 pub struct Desk {
     pub config: Config,
     pub number: u64,
@@ -19,14 +19,14 @@ pub struct Desk {
 }
 
 // What a call hands back: the record changed, or as it was where the verdict is a refusal.
-#[derive(Drop)]
+#[derive(Clone, Copy)]
 pub struct DeskAnswer {
     pub verdict: Verdict,
     pub desk: Desk,
 }
 
 // What comes of a reply: it is taken, or comes too late, or is refused.
-#[derive(Drop)]
+#[derive(Clone, Copy)]
 pub enum Hearing {
     Accepted,
     Late,
@@ -34,7 +34,7 @@ pub enum Hearing {
 }
 
 // What hearing a reply hands back: the record changed, or as it was where the reply was late or refused.
-#[derive(Drop)]
+#[derive(Clone, Copy)]
 pub struct Heard {
     pub hearing: Hearing,
     pub desk: Desk,

@@ -9,7 +9,7 @@ use config::{Config, Refusal, Verdict};
 use replica::Register;
 
 // The kind of the operation (1 read, 2 write), its tag and value, and its restarts; every field is 0 beside a refusal.
-#[derive(Drop)]
+#[derive(Clone, Copy)]
 pub struct Told {
     pub verdict: Verdict,
     pub kind: u16,

@@ -19,7 +19,7 @@ use replica::Register;
 
 // 0, for a reply that came too late 1, or a refusal; and the record changed, or as it was where the answer is not 0.
 #[repr(C)]
-#[derive(Drop)]
+#[derive(Clone, Copy)]
 pub struct AnsweredDesk {
     pub answer: i64,
     pub desk: Desk,
@@ -27,7 +27,7 @@ pub struct AnsweredDesk {
 
 // 0, or a refusal; and the result of an operation: its restarts, its kind (1 read, 2 write), its tag and value. Every field is 0 beside a refusal.
 #[repr(C)]
-#[derive(Drop)]
+#[derive(Clone, Copy)]
 pub struct AnsweredResult {
     pub answer: i64,
     pub restarts: u32,

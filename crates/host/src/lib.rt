@@ -1,6 +1,8 @@
 // The functions that a C host calls. Here are those about messages and blocks (paper 01, "Desk", last paragraph): message check, weight, quorum and seats on
 // offer; `servers` and `desks` have the calls on records. The calls on messages are given a cluster as n, f and the list of its start weights (paper 02, N2). An answer is a signed number: what was asked for, or for a refusal −1,000,000 less its number.
 // include/tovridsa.h declares all of them to C.
+#![tactic(auto)]
+
 mod code;
 mod desks;
 mod servers;

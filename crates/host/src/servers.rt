@@ -14,7 +14,7 @@ use server::{Server, ServerAnswer, serve_in};
 
 // 0, or a refusal; and the record changed, or as it was where the answer is a refusal.
 #[repr(C)]
-#[derive(Drop)]
+#[derive(Clone, Copy)]
 pub struct AnsweredServer {
     pub answer: i64,
     pub server: Server,
@@ -22,7 +22,7 @@ pub struct AnsweredServer {
 
 // The same of serve; and the place after the reply, or the place given where nothing is written.
 #[repr(C)]
-#[derive(Drop)]
+#[derive(Clone, Copy)]
 pub struct AnsweredServe {
     pub answer: i64,
     pub end: u64,

@@ -29,7 +29,7 @@ use Rattle.ledger.specs.Weights.{weight_of, all_of, margin_of, quorum_of, quorum
 
 -- a signed number that fits is read back as itself
 pub read_back : (z : ℤ) → mag z < 2 ^ 63 → to_z w64 (of_z w64 z) ≡ z
-read_back z h = to_z-of_z (record { sfits = h })
+read_back z h = to_z-of_z {w = w64} (record { sfits = h })
 
 -- two numbers that are not large, subtracted as signed ones
 pub gap_is : (a b : ℕ) → a < 2 ^ 62 → b < 2 ^ 62 → to_z w64 a -ℤ to_z w64 b ≡ difference a b

@@ -14,7 +14,7 @@ pub mod Majorities
 pub mod Published
 pub mod Unions
 pub mod Kept
-pub mod Compared
+pub mod ComparedLemmas
 pub mod Comparisons
 pub mod Fresh
 pub mod Added

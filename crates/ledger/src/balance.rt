@@ -11,7 +11,7 @@ use super::map::names;
 use config::Config;
 
 // What servers have before their gifts are taken off, and what they gave.
-#[derive(Drop)]
+#[derive(Clone, Copy)]
 pub(crate) struct Balance {
     pub held: u64,
     pub given: u64,

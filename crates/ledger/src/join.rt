@@ -9,7 +9,7 @@ use super::ledger::{Changed, Ledger};
 use config::{Refusal, Verdict};
 
 // How a ledger compares with another, wherever one of the two has a transfer.
-#[derive(Drop)]
+#[derive(Clone, Copy)]
 pub struct Compared {
     // Their rows agree.
     pub joins: bool,

@@ -6,14 +6,14 @@ use config::{Refusal, Verdict};
 
 // The transfers known to a party (paper 01: sheet). counts[i] is the number of transfers that server i made, and cells[16 i + j] what it gave server j in all.
 #[repr(C)]
-#[derive(Drop)]
+#[derive(Clone, Copy)]
 pub struct Ledger {
     pub counts: [u16; 16],
     pub cells: [u32; 256],
 }
 
 // What a call that changes a ledger hands back: the ledger changed, or as it was where the verdict is a refusal.
-#[derive(Drop)]
+#[derive(Clone, Copy)]
 pub struct Changed {
     pub verdict: Verdict,
     pub ledger: Ledger,

@@ -1,4 +1,6 @@
 // The transfers that a party knows (paper 01: sheet), and what follows from them: weights, quorums, and what two parties know together.
+#![tactic(auto)]
+
 mod balance;
 mod change;
 mod check;

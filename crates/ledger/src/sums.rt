@@ -18,7 +18,7 @@ use config::{Config, MOST_WEIGHT, Refusal, Verdict, least_lent};
 
 // What the record test finds of a ledger, and the margin of a map on it: twice the weight of the servers that it names, less W; 0 where the ledger is
 // refused. They are a quorum where it is above zero.
-#[derive(Drop)]
+#[derive(Clone, Copy)]
 pub struct Weighed {
     pub verdict: Verdict,
     pub margin: i64,

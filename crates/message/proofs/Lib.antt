@@ -26,6 +26,6 @@ pub mod FieldBacks
 pub mod Rounds
 pub mod Bounds
 pub mod Envelopes
-pub mod Taken
+pub mod TakenLemmas
 pub mod Placed
 pub mod Longest

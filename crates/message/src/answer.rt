@@ -8,7 +8,7 @@ use ledger::Ledger;
 use replica::{Register, Replica};
 
 // What bytes say: the envelope and the replica, or the refusal beside a blank envelope and a fresh replica.
-#[derive(Drop)]
+#[derive(Clone, Copy)]
 pub struct Received {
     pub verdict: Verdict,
     pub envelope: Envelope,
@@ -29,7 +29,7 @@ impl Received {
 }
 
 // What bytes say but for the ledger, which goes into arrays that are lent.
-#[derive(Drop)]
+#[derive(Clone, Copy)]
 pub struct Taken {
     pub verdict: Verdict,
     pub envelope: Envelope,
@@ -37,14 +37,14 @@ pub struct Taken {
 }
 
 // A register's tag.
-#[derive(Drop)]
+#[derive(Clone, Copy)]
 pub struct Tag {
     pub stamp: u32,
     pub desk: u16,
 }
 
 // What bytes say but for the register's value, which is a part of the message.
-#[derive(Drop)]
+#[derive(Clone, Copy)]
 pub struct Fields {
     pub verdict: Verdict,
     pub envelope: Envelope,

@@ -10,7 +10,7 @@ pub const REPLY: u8 = 2;
 pub const SHARE: u8 = 3;
 
 // The fields of a message beside the replica. Desk, round and note are 0 where absent.
-#[derive(Drop)]
+#[derive(Clone, Copy)]
 pub struct Envelope {
     pub kind: u8,
     pub server: u8,

@@ -2,7 +2,7 @@
 use ledger::Ledger;
 
 // Once the number isn't 0, every later step leaves it and the place as they are.
-#[derive(Drop)]
+#[derive(Clone, Copy)]
 pub struct Cursor {
     // The number of the first fault; 0 where there was none.
     pub number: u64,
@@ -13,7 +13,7 @@ pub struct Cursor {
 }
 
 // The map and the fields of bits 0 to 3.
-#[derive(Drop)]
+#[derive(Clone, Copy)]
 pub struct HeadRead {
     pub map: u64,
     pub kind: u64,
@@ -24,7 +24,7 @@ pub struct HeadRead {
 }
 
 // The register: its tag, and where its value lies.
-#[derive(Drop)]
+#[derive(Clone, Copy)]
 pub struct RegisterRead {
     pub stamp: u64,
     pub desk: u64,
@@ -34,7 +34,7 @@ pub struct RegisterRead {
 }
 
 // The sheet.
-#[derive(Drop)]
+#[derive(Clone, Copy)]
 pub struct SheetRead {
     pub ledger: Ledger,
     pub cursor: Cursor,

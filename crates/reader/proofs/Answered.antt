@@ -29,7 +29,7 @@ use Rattle.message.proofs.Numbers.{scan-most}
 use Rattle.message.proofs.Parts.{value-within}
 use Rattle.message.proofs.Rounds.{check-told, received}
 use Rattle.message.proofs.Envelopes.{receive-refused}
-use Rattle.message.proofs.Taken.{taken-ledger}
+use Rattle.message.proofs.TakenLemmas.{taken-ledger}
 use Rattle.message.proofs.SheetBacks.{ledger-typed}
 use Rattle.reader.specs.Weighings.{weight_in, quorum_in}
 use Rattle.ledger.specs.Sums.{Sums, accounts_in}

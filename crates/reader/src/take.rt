@@ -14,7 +14,7 @@ use ledger::total_fits;
 use message::Cursor;
 
 // A row: its count, what its cells come to, and where it ends.
-#[derive(Drop)]
+#[derive(Clone, Copy)]
 pub(crate) struct RowTaken {
     pub count: u64,
     pub total: u64,

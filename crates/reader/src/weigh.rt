@@ -13,7 +13,7 @@ use ledger::total_fits;
 use message::Cursor;
 
 // What the cells of a row come to, and where they end.
-#[derive(Drop)]
+#[derive(Clone, Copy)]
 pub(crate) struct CellsRead {
     pub total: u64,
     pub cursor: Cursor,

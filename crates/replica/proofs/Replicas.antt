@@ -15,7 +15,7 @@ use Rattle.ledger.specs.Joins.{agree_at, joins, joined, lacks}
 use Rattle.ledger.proofs.Fresh as fresh
 use Rattle.ledger.proofs.Kept.{joined_typed, joined-bounded}
 use Rattle.ledger.proofs.Unions.{joined-cell, joined-left, joined-right, joined-comm, joins-comm, later-grows}
-use Rattle.ledger.proofs.Compared.{lacks-nothing}
+use Rattle.ledger.proofs.ComparedLemmas.{lacks-nothing}
 use Rattle.replica.specs.declared.replica.Replica.{Replica}
 use Rattle.replica.specs.Registers.{register_fits, below, agree, Typed as TypedRegister}
 use Rattle.replica.specs.Replicas.{fresh_replica, fits, joinable, join, Typed}

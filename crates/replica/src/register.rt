@@ -7,7 +7,7 @@ use config::Config;
 
 // The tag is (stamp, desk), compared stamp first.
 #[repr(C)]
-#[derive(Drop)]
+#[derive(Clone, Copy)]
 pub struct Register {
     pub stamp: u32,
     pub desk: u16,

@@ -9,7 +9,7 @@ use config::{Config, Verdict};
 use ledger::{Compared, Ledger, check_lent};
 
 #[repr(C)]
-#[derive(Drop)]
+#[derive(Clone, Copy)]
 pub struct Replica {
     pub ledger: Ledger,
     pub register: Register,

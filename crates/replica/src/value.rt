@@ -7,7 +7,7 @@ pub const MOST_VALUE: u16 = 64;
 
 // The first `length` of the bytes. Those after them mean nothing; what a call stores has zeros there.
 #[repr(C)]
-#[derive(Drop)]
+#[derive(Clone, Copy)]
 pub struct Value {
     pub length: u16,
     pub bytes: [u8; 64],

@@ -35,7 +35,7 @@ use Rattle.quorums.proofs.Tables.{table-length, table_at, table_same, is-table}
 use Rattle.ledger.proofs.Totals.{told-bounded}
 use Rattle.ledger.proofs.Added.{may-hold-placed}
 use Rattle.ledger.proofs.Unions.{same-ledger, later_first, later_second}
-use Rattle.ledger.proofs.Compared.{lacks-nothing}
+use Rattle.ledger.proofs.ComparedLemmas.{lacks-nothing}
 use Rattle.machine.specs.Sets.{Transfer, Transfers, includes, union, tally, count, cell, given, received, accounts, weight_of as plain_weight, quorum_of as plain_quorum}
 use Rattle.machine.specs.Margins.{margin_of as plain_margin}
 use Rattle.machine.specs.Sheets.{Sound}

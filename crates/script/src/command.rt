@@ -3,7 +3,7 @@ use super::house::{House, List};
 use super::text::MOST_BYTES;
 
 // What a desk is asked to do. A begin has its note; an ask has the server, and the place and the length of the buffer.
-#[derive(Drop)]
+#[derive(Clone, Copy)]
 pub enum DeskCall {
     BeginRead(u32),
     BeginWrite(u32),
@@ -16,7 +16,7 @@ pub enum DeskCall {
 }
 
 // What a server is asked to do. A share and a serve have the place and the length of the buffer, a transfer the taker and the amount.
-#[derive(Drop)]
+#[derive(Clone, Copy)]
 pub enum ServerCall {
     Share(u64, u64),
     Serve(u64, u64),
@@ -26,7 +26,7 @@ pub enum ServerCall {
 }
 
 // What is asked of a message, a block or a map, with no record.
-#[derive(Drop)]
+#[derive(Clone, Copy)]
 pub enum Query {
     Check,
     Weight(u64),
@@ -37,7 +37,7 @@ pub enum Query {
 }
 
 // What a line comes to. It may also say nothing, be past the program's bounds, or not be readable. The house of House and of Message stands beside it.
-#[derive(Drop)]
+#[derive(Clone, Copy)]
 pub enum Command {
     House,
     Desk(u64, DeskCall),

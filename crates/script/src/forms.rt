@@ -32,7 +32,7 @@ message # # *
 
 // Whether a line has a form; the number that each of its words stands for, 0 where it is none; its list, empty where it has none; and where its bytes begin,
 // at its end where it has none.
-#[derive(Drop)]
+#[derive(Clone, Copy)]
 struct Met {
     ok: bool,
     x: [u64; 5],
@@ -41,7 +41,7 @@ struct Met {
 }
 
 // What a line asks for, the house that it gives, and where its bytes begin, at its end where it has none.
-#[derive(Drop)]
+#[derive(Clone, Copy)]
 pub(crate) struct Asked {
     pub command: Command,
     pub house: House,

@@ -11,7 +11,7 @@ pub const MOST_STARTS: usize = 17;
 const LEVEL: u64 = 1000;
 
 // The numbers n and f, the start weights that are kept, and how many the list has.
-#[derive(Drop)]
+#[derive(Clone, Copy)]
 pub struct House {
     pub n: u64,
     pub f: u64,
@@ -44,7 +44,7 @@ impl House {
 }
 
 // Whether a word stands for a list, the entries that are kept, and how many it has.
-#[derive(Drop)]
+#[derive(Clone, Copy)]
 pub(crate) struct List {
     pub ok: bool,
     pub entries: [u64; MOST_STARTS],

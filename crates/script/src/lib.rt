@@ -1,4 +1,6 @@
 // The lines of a script (docs/SCRIPTS.md): what a line asks for, as a command, the house that it gives, and the bytes that it brings.
+#![tactic(auto)]
+
 mod command;
 mod forms;
 mod house;

@@ -10,7 +10,7 @@ use super::text::{MOST_BYTES, Parsed, SPACE, decode, find, skip};
 const MOST_LINE: usize = 8192;
 
 // What a line asks for, the house that it gives, which means nothing where the command takes none, and how many bytes it has.
-#[derive(Drop)]
+#[derive(Clone, Copy)]
 pub struct Understood {
     pub command: Command,
     pub house: House,

@@ -8,7 +8,7 @@ pub const MOST_BYTES: usize = 2048;
 pub const SPACE: usize = 2049;
 
 // A number, if a text stands for one.
-#[derive(Drop)]
+#[derive(Clone, Copy)]
 pub(crate) enum Parsed {
     Value(u64),
     Bad,

@@ -1,4 +1,6 @@
 // Seats on offer (paper 01): in a block of seats a set bit is a seat sold.
+#![tactic(auto)]
+
 ghost use Rattle.std.specs.Prelude.{◌≡◌, ◌+◌, ◌≤◌};
 ghost use Rattle.seats.specs.Offers.{free_in, offer_answer};
 

@@ -26,7 +26,7 @@ use Rattle.message.specs.declared.envelope.Envelope.{Envelope}
 use Rattle.message.specs.Envelopes.{message_of}
 use Rattle.message.specs.Faults.{lawful, send_of, Passed}
 use Rattle.message.proofs.Found.{sends-held}
-use Rattle.message.proofs.Taken.{taken-verdict, taken-envelope, taken-replica}
+use Rattle.message.proofs.TakenLemmas.{taken-verdict, taken-envelope, taken-replica}
 use Rattle.replica.specs.declared.register.Register.{Register}
 use Rattle.replica.specs.declared.replica.Replica.{Replica}
 use Rattle.replica.specs.Parts.{replica_of}

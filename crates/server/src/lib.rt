@@ -1,4 +1,6 @@
 // A server of the store (paper 01, "Server"). Its record goes in by value and comes back by value; every call tests it first.
+#![tactic(auto)]
+
 mod record;
 mod serve;
 mod share;

@@ -8,7 +8,7 @@ use config::{Config, Refusal, Verdict};
 use replica::{Register, Replica, fits_lent};
 
 #[repr(C)]
-#[derive(Drop)]
+#[derive(Clone, Copy)]
 pub struct Server {
     pub config: Config,
     pub number: u64,
@@ -16,7 +16,7 @@ pub struct Server {
 }
 
 // What a call hands back: the record changed, or as it was where the verdict is a refusal.
-#[derive(Drop)]
+#[derive(Clone, Copy)]
 pub struct ServerAnswer {
     pub verdict: Verdict,
     pub server: Server,

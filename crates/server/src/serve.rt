@@ -20,21 +20,21 @@ use writer::send_lent;
 
 // What serve hands back: the place after the reply, or the place given where nothing is written; and the record after joining, or as it was where the
 // answer is a refusal.
-#[derive(Drop)]
+#[derive(Clone, Copy)]
 pub struct Served {
     pub answer: Number,
     pub server: Server,
 }
 
 // The same on the parts of a record, beside its counts and cells.
-#[derive(Drop)]
+#[derive(Clone, Copy)]
 pub struct ServedIn {
     pub answer: Number,
     pub register: Register,
 }
 
 // What becomes of a message: it is refused, or brings no transfer that the server lacks, or some.
-#[derive(Drop)]
+#[derive(Clone, Copy)]
 pub(crate) enum Serving {
     Refused(Refusal),
     Known,

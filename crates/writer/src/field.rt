@@ -43,7 +43,7 @@ pub(crate) fn put_register(out: &mut [u8], at: usize, config: Config, register: 
 }
 
 // What of a row's cells is written: their map, and the place after them.
-#[derive(Drop)]
+#[derive(Clone, Copy)]
 pub(crate) struct Cells {
     pub map: u64,
     pub end: usize,

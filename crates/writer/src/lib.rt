@@ -1,4 +1,6 @@
 // Writing messages (paper 01, "Message bytes").
+#![tactic(auto)]
+
 mod call;
 mod fault;
 mod field;

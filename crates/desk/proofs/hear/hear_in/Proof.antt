@@ -10,7 +10,7 @@ use Rattle.ledger.proofs.Answers.{read_back}
 use Rattle.message.specs.Envelopes.{Bytes}
 use Rattle.message.specs.Faults.{Passed}
 use Rattle.message.specs.declared.answer.Taken.{Taken}
-use Rattle.message.proofs.Taken.{taken-server}
+use Rattle.message.proofs.TakenLemmas.{taken-server}
 use Rattle.replica.specs.Parts.{replica_of}
 use Rattle.replica.specs.declared.replica.Replica.{Replica}
 use Rattle.desk.specs.declared.record.Desk.{Desk}
@@ -21,7 +21,7 @@ use Rattle.desk.specs.Hears.{hear_of}
 use Rattle.desk.specs.Hearings.{restart_in, mark_in}
 use Rattle.desk.proofs.Operations.{operation-told}
 use Rattle.desk.proofs.Desks.{sound-first, Sound, sound-told, number-told}
-use Rattle.desk.proofs.Told.{hear-unfit}
+use Rattle.desk.proofs.ToldLemmas.{hear-unfit}
 use Rattle.desk.proofs.Hearings.{listens-told, hear_read, listening-refused, listening-late, listening-larger, listening-equal}
 use Rattle.desk.proofs.Answers.{weighed-fits, weighed-margin, read-passed, read-hears, unheard-answers, restart-answers, mark-answers}
 use Rattle.desk.proofs.hear.hear_in.Statement.{statement}

@@ -15,7 +15,7 @@ use Rattle.message.specs.declared.answer.Taken.{Taken}
 use Rattle.message.specs.Answers.{taken_of, taken_ledger}
 use Rattle.message.specs.Envelopes.{Bytes}
 use Rattle.message.specs.Faults.{Passed}
-use Rattle.message.proofs.Taken.{taken-passed}
+use Rattle.message.proofs.TakenLemmas.{taken-passed}
 use Rattle.replica.specs.declared.replica.Replica.{Replica}
 use Rattle.replica.specs.Parts.{replica_of}
 use Rattle.replica.specs.Replicas.{fits}

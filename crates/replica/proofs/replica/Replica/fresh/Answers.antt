@@ -1,0 +1,6 @@
+-- `fresh` meets its contract: both parts are fresh.
+use borrow.Author.Rules.{rules}
+use Rattle.replica.proofs.replica.Replica.fresh.Goals as goal
+
+pub returns : goal.returns
+returns c = cc
