@@ -7,10 +7,10 @@ use mir.Syntax.{w64}
 use mir.Val.{Val}
 use denote.Laws.{Is}
 use denote.Struct.Declared.{row as row_of}
-use Rattle.ledger.proofs.Ranges.{field-length}
+use Rattle.ledger.proofs.Ranges.{array-length}
 use Rattle.script.specs.declared.house.House.{House}
 use Rattle.script.specs.contracts.house.House as HouseStruct
 
 -- as many as are kept lie within it
 pub kept-fits : (h : House) (vs : List Val) → Is (row_of HouseStruct.the_type) h vs → {k : ℕ} → k ≤ 17 → k ≤ length h.starts
-kept-fits h vs is small = omega (arith, field-length w64 17 h.starts _ is.1.1.1.1.0)
+kept-fits h vs is small = omega (arith, array-length w64 17 h.starts _ is.1.1.1.1.0)

@@ -1,8 +1,8 @@
 -- What a call knows of an argument that is an array: arrays have their lengths, and each number fits its type.
 use Prim.Native.Nat.{ℕ, zero, suc, ◌^◌, ◌<◌}
-use mathlib.Core.Path.{◌≡◌, sym, ◌∙◌}
-use mathlib.Core.List.{List, [], ◌∷◌, map}
-use lib.ListN.{length, get_or, length-map, get_or-map}
+use mathlib.Core.Path.{◌≡◌}
+use mathlib.Core.List.{List, [], ◌∷◌}
+use lib.ListN.{length, get_or}
 use lib.Pow.{pow_pos}
 use mir.Syntax.{Width}
 use mir.Val.{Val, bits}
@@ -22,11 +22,3 @@ array-length w n xs vs h = h.1.0.1
 
 pub array-fits : (w : Width) (n : ℕ) (xs : List ℕ) (vs : List Val) → Is (Array (UInt w) n) xs vs → (k : ℕ) → get_or xs k 0 < 2 ^ bits w
 array-fits w n xs vs h k = each_fits w xs h.0 h.1.1 k
-
--- the same of an array that is a field
-
-pub field-length : (w : Width) (n : ℕ) (xs : List ℕ) (vs : List Val) → Is (Array (UInt w) n) (map (λ (v : ℕ). v) xs) vs → length xs ≡ n
-field-length w n xs vs h = sym (length-map xs (λ v. v)) ∙ array-length w n (map (λ v. v) xs) vs h
-
-pub field_fits : (w : Width) (n : ℕ) (xs : List ℕ) (vs : List Val) → Is (Array (UInt w) n) (map (λ (v : ℕ). v) xs) vs → (k : ℕ) → get_or xs k 0 < 2 ^ bits w
-field_fits w n xs vs h k = rw (get_or-map (λ v. v) xs k 0) at (array-fits w n (map (λ v. v) xs) vs h k)

@@ -5,7 +5,7 @@ use mir.Syntax.{w8}
 use mir.Val.{Val}
 use denote.Laws.{Is}
 use denote.Struct.Declared.{row as row_of}
-use Rattle.ledger.proofs.Ranges.{field-length, field_fits}
+use Rattle.ledger.proofs.Ranges.{array-length, array-fits}
 use Rattle.replica.specs.declared.value.Value.{Value}
 use Rattle.replica.specs.declared.register.Register.{Register}
 use Rattle.replica.specs.Values.{Typed as TypedValue}
@@ -17,9 +17,9 @@ pub value-is-typed : (v : Value) (vs : List Val) → Is (row_of ValueStruct.the_
 value-is-typed v vs is =
     let f = is.1.1 in
     record {
-      bytes-length = field-length w8 64 v.bytes _ f.1.0;
+      bytes-length = array-length w8 64 v.bytes _ f.1.0;
       length-fits = omega (arith, f.0.1);
-      byte_fits = λ k. omega (arith, field_fits w8 64 v.bytes _ f.1.0 k);
+      byte_fits = λ k. omega (arith, array-fits w8 64 v.bytes _ f.1.0 k);
     }
 
 pub register-is-typed : (r : Register) (vs : List Val) → Is (row_of RegisterStruct.the_type) r vs → TypedRegister r

@@ -1,6 +1,5 @@
 -- `compare_lent` meets its contract: the ledgers decide where the registers agree, and else nothing joins.
 use mathlib.Core.Path.{refl, sym, ◌∙◌}
-use borrow.Author.Rules.{rules}
 use Rattle.replica.specs.Replicas.{compared_of}
 use Rattle.replica.proofs.replica.compare_lent.Goals as goal
 

@@ -1,5 +1,4 @@
 -- `agrees` meets its contract: only equal tags ask for equal values.
-use borrow.Author.Rules.{rules}
 use borrow.Author.Tests.{eq-eqb, ne_eqb}
 use Rattle.replica.specs.Registers.{agree}
 use Rattle.replica.proofs.register.Register.agrees.Goals as goal

@@ -3,7 +3,6 @@ use Prim.Native.Nat.{◌≤◌, ◌<◌}
 use native.Mathlib.Omega.{arith}
 use mathlib.Core.Path.{◌≡◌, ◌∙◌}
 use mathlib.Core.Bool.{false}
-use borrow.Author.Rules.{rules}
 use borrow.Author.Tests.{eq-eqb, ne_eqb, le-leb, lt-leb}
 use lib.Dec.{eqb}
 use Rattle.quorums.proofs.Tests.{or-false}
@@ -56,4 +55,4 @@ pub returns-then-self-eq0-3 : goal.returns-then-self-eq0-3
 returns-then-self-eq0-3 c = no-desk _ _ c.if-self-eq0.false (stamped (goal.at.returns-then-self-eq0-3 c).Else-most_stamp-self) c.if-self-eq0-3.true
 
 pub returns : goal.returns
-returns c = c.fits2.ensures ∙ tagged _ _ c.if-self-eq0.false (stamped (goal.at.returns c).Else-most_stamp-self) c.if-self-eq0-3.false
+returns c = c.fits.ensures ∙ tagged _ _ c.if-self-eq0.false (stamped (goal.at.returns c).Else-most_stamp-self) c.if-self-eq0-3.false

@@ -1,6 +1,5 @@
 -- `higher` meets its contract.
 use mathlib.Core.Path.{sym, ◌∙◌}
-use borrow.Author.Rules.{rules}
 use Rattle.replica.specs.Registers.{higher}
 use Rattle.replica.proofs.register.Register.higher.Goals as goal
 

@@ -1,6 +1,5 @@
 -- `start` meets its contract.
 use mathlib.Core.Path.{ap}
-use borrow.Author.Rules.{rules}
 use Rattle.replica.specs.declared.register.Register.{Register}
 use Rattle.replica.specs.declared.value.Value.{Value}
 use Rattle.replica.proofs.register.Register.start.Goals as goal

@@ -1,6 +1,5 @@
 -- `trimmed` meets its contract: the tag stays.
 use mathlib.Core.Path.{ap}
-use borrow.Author.Rules.{rules}
 use Rattle.replica.proofs.register.Register.trimmed.Goals as goal
 
 pub returns : goal.returns

@@ -1,5 +1,4 @@
 -- `fresh` meets its contract: both parts are fresh.
-use borrow.Author.Rules.{rules}
 use Rattle.replica.proofs.replica.Replica.fresh.Goals as goal
 
 pub returns : goal.returns

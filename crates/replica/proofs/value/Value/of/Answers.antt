@@ -1,10 +1,9 @@
 -- `of` meets its contract: the bytes before k are those of the slice, and the others 0.
-use Prim.Native.Nat.{ℕ, ◌-◌, ◌≤◌, ◌<◌}
+use Prim.Native.Nat.{ℕ, ◌≤◌, ◌<◌}
 use native.Mathlib.Omega.{arith}
 use mathlib.Core.Path.{◌≡◌, refl, sym, ap₂, ◌∙◌}
 use mathlib.Core.Logic.{⊎_elim}
 use mathlib.Core.List.{List}
-use borrow.Author.Rules.{rules}
 use lib.ListN.{length, get_or, length-set, get_or-replicate, get_or-eq_default}
 use lib.Seq.{get_or-set_other}
 use Rattle.quorums.proofs.Tests.{le-or-lt}

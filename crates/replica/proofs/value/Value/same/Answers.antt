@@ -1,11 +1,7 @@
 -- `same` meets its contract: before k the two are the same at every index, and past the bytes of the first there is nothing to compare.
-use Prim.Native.Nat.{◌-◌, ◌≤◌, ◌<◌}
+use Prim.Native.Nat.{◌<◌}
 use native.Mathlib.Omega.{arith}
-use mathlib.Core.Path.{◌≡◌}
-use mathlib.Core.Bool.{true}
-use borrow.Author.Rules.{rules}
 use borrow.Author.Tests.{eq-eqb, ne_eqb}
-use Rattle.quorums.specs.Sum.{all}
 use Rattle.quorums.proofs.Sums.{all_none, all-next, all-fails}
 use Rattle.replica.specs.Values.{same, same_at}
 use Rattle.replica.proofs.Values.{same_alike, same_not, same_rest}

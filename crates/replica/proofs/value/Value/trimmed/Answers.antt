@@ -2,7 +2,6 @@
 use native.Mathlib.Omega.{arith}
 use Prim.Native.Nat.{min}
 use mathlib.Core.Path.{◌≡◌, sym, ap, ◌∙◌}
-use borrow.Author.Rules.{rules}
 use lib.ListN.{take}
 use lib.Seq.{length-take-le}
 use Rattle.replica.specs.declared.value.Value.{Value}
@@ -19,7 +18,7 @@ bytes-kept v t = trimmed-lent v t
 
 -- the array has 64 bytes
 typed : (c : Start) → Typed c.args.self
-typed c = value-is-typed c.args.self _ c.well-formed.0
+typed c = value-is-typed c.args.self _ c.well_formed.0
 
 pub slice_bounds-bytes-end : goal.slice_bounds-bytes-end
 slice_bounds-bytes-end c = omega (arith, (typed (goal.at.slice_bounds-bytes-end c).Start).bytes-length, c.short-end.ensures.1)
