@@ -1,8 +1,8 @@
 -- Reading what was written, whether the reader takes it or not: its number is `fault_of`.
-use Prim.Native.Nat.{ℕ, ◌+◌, ◌<◌}
+use Prim.Native.Nat.{ℕ, ◌<◌}
 use native.Mathlib.Omega.{arith}
 use mathlib.Core.Path.{◌≡◌, refl, sym, ap, ◌∙◌}
-use mathlib.Core.Logic.{◌⊎◌, ⊎_elim}
+use mathlib.Core.Logic.{⊎_elim}
 use mathlib.Core.Bool.{Bool, true, false, cond, false≢true}
 use mathlib.Core.List.{List, [], ◌∷◌, ◌++◌, append_assoc, append-nil}
 use borrow.Author.Tests.{ltb-true, ltb-false, eq-eqb}
@@ -15,7 +15,7 @@ use Rattle.config.proofs.Clusters.{lawful-bounds}
 use Rattle.ledger.specs.declared.ledger.Ledger.{Ledger}
 use Rattle.ledger.specs.Ledgers.{count_of, cell_of}
 use Rattle.ledger.specs.Checks.{bounded, above_floor}
-use Rattle.format.specs.Bytes.{number, stands, bit}
+use Rattle.format.specs.Bytes.{stands, bit}
 use Rattle.format.specs.Table.{register_mark, register, row_map, sheet, field_map, field_map_of, head, note, encode_fields}
 use Rattle.replica.specs.declared.replica.Replica.{Replica}
 use Rattle.replica.specs.Values.{value_of}

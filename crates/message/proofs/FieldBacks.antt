@@ -17,7 +17,7 @@ use Rattle.message.specs.Envelopes.{Bytes}
 use Rattle.message.specs.Cursors.{start, read_number, skip}
 use Rattle.message.specs.Scans.{map_lawful, read_map, read_kind, head_of, register_of}
 use Rattle.message.proofs.Sticky.{read_number-open, skip-open}
-use Rattle.message.proofs.Backs.{Passed, moved, at, Got, number-got, got-mark, own-mark, skip-got, require-got}
+use Rattle.message.proofs.Backs.{Passed, moved, Got, number-got, got-mark, own-mark, skip-got, require-got}
 
 -- What a head without a fault is.
 pub record HeadBack (c : Config) (msg : List ℕ) : Type 0 where

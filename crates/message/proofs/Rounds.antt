@@ -15,7 +15,7 @@ use Rattle.config.specs.declared.cluster.Config.{Config}
 use Rattle.config.proofs.Clusters.{lawful-bounds, fault-some}
 use Rattle.ledger.specs.declared.ledger.Ledger.{Ledger}
 use Rattle.ledger.specs.Ledgers.{count_of, cell_of}
-use Rattle.format.specs.Bytes.{number, stands, bit}
+use Rattle.format.specs.Bytes.{stands, bit}
 use Rattle.format.specs.Table.{register_mark, register, row_map, sheet, field_map, field_map_of, head, note, encode_fields}
 use Rattle.format.proofs.Marks.{stands-bit, bit_le, marks-bit, marks-stand}
 use Rattle.replica.specs.declared.replica.Replica.{Replica}

@@ -1,7 +1,6 @@
 -- `meet` is safe and ends: it stays within form and line, and passes a word of a form in each turn, five at the most.
 use Prim.Native.Nat.{◌≤◌, ◌-◌}
 use lib.ListN.{length}
-use borrow.Author.Rules.{rules}
 use Rattle.script.proofs.forms.meet.Given as goal
 
 abbrev pub invariant-loop-at : goal.invariant-loop-at

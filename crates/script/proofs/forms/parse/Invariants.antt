@@ -1,7 +1,6 @@
 -- `parse` is safe and ends: each turn passes a line of the table.
 use Prim.Native.Nat.{◌≤◌, ◌-◌}
 use lib.ListN.{length}
-use borrow.Author.Rules.{rules}
 use Rattle.script.proofs.forms.parse.Given as goal
 
 abbrev pub invariant-loop-at : goal.invariant-loop-at

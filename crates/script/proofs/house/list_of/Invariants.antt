@@ -1,7 +1,6 @@
 -- `list_of` is safe and ends: each turn passes a comma or the end, and no more entries are counted than characters passed.
 use Prim.Native.Nat.{◌≤◌, ◌+◌, ◌-◌}
 use lib.ListN.{length}
-use borrow.Author.Rules.{rules}
 use Rattle.script.proofs.house.list_of.Given as goal
 
 abbrev pub invariant-loop-at : goal.invariant-loop-at

@@ -2,7 +2,6 @@
 use native.Mathlib.Omega.{arith}
 use mathlib.Core.Path.{sym}
 use lib.Seq.{length-take-le}
-use borrow.Author.Rules.{rules}
 use Rattle.script.proofs.line.understand.Goals as goal
 
 pub slice_bounds-text-end : goal.slice_bounds-text-end

@@ -1,7 +1,6 @@
 -- `decimal` is safe and ends: a digit is taken only where the number with it fits.
 use Prim.Native.Nat.{◌≤◌, ◌-◌}
 use lib.ListN.{length}
-use borrow.Author.Rules.{rules}
 use Rattle.script.proofs.text.decimal.Given as goal
 
 abbrev pub invariant-loop-k : goal.invariant-loop-k

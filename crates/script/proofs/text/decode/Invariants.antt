@@ -1,10 +1,7 @@
 -- `decode` is safe and ends: a pair lies within the text, and no more bytes are counted than characters passed.
 use Prim.Native.Nat.{◌≤◌, ◌-◌}
-use native.Mathlib.Omega.{arith}
-use mathlib.Core.Path.{◌≡◌, ap}
-use mathlib.Core.Logic.{⊎_elim}
-use lib.ListN.{length, length-set}
-use borrow.Author.Rules.{rules}
+use mathlib.Core.Path.{◌≡◌}
+use lib.ListN.{length}
 use Rattle.script.proofs.text.decode.Given as goal
 
 abbrev pub invariant-loop-at : goal.invariant-loop-at

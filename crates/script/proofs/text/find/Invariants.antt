@@ -1,6 +1,5 @@
 -- `find` is safe and ends, at a place from `from` to the end.
 use Prim.Native.Nat.{◌≤◌, ◌-◌}
-use borrow.Author.Rules.{rules}
 use lib.ListN.{length}
 use Rattle.script.proofs.text.find.Given as goal
 

@@ -1,7 +1,6 @@
 -- `same` is safe and ends.
 use Prim.Native.Nat.{◌≤◌, ◌-◌}
 use mathlib.Core.Path.{◌≡◌}
-use borrow.Author.Rules.{rules}
 use lib.ListN.{length}
 use Rattle.script.proofs.text.same.Given as goal
 

@@ -1,7 +1,6 @@
 -- `skip` is safe and ends.
 use Prim.Native.Nat.{◌≤◌, ◌-◌}
 use lib.ListN.{length}
-use borrow.Author.Rules.{rules}
 use Rattle.script.proofs.text.skip.Given as goal
 
 abbrev pub invariant-loop-at : goal.invariant-loop-at

@@ -1,6 +1,5 @@
 -- `refused` meets its contract: both parts say nothing.
 use mathlib.Core.Path.{ap₂}
-use borrow.Author.Rules.{rules}
 use Rattle.config.specs.declared.answer.Verdict.{Verdict}
 use Rattle.message.specs.declared.answer.Received.{Received}
 use Rattle.message.proofs.answer.Received.refused.Goals as goal

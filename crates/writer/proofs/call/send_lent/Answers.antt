@@ -1,0 +1,29 @@
+-- `send_lent` meets its contract: what is sent is what the reader takes.
+use mathlib.Core.Path.{◌≡◌, refl, sym, ◌∙◌}
+use borrow.Author.Rules.{rules}
+use borrow.Author.Tests.{not-true, not-false}
+use Rattle.quorums.proofs.Tests.{both}
+use Rattle.replica.specs.Parts.{replica_of}
+use Rattle.message.specs.Faults.{lawful, fault_of, send_of}
+use Rattle.message.proofs.Found.{no-fault, fault-sends}
+use Rattle.writer.proofs.call.send_lent.Goals.{Else-not-sends}
+use Rattle.writer.proofs.call.send_lent.Goals as goal
+
+none : (c : Else-not-sends) →
+    let a = c.args in
+    fault_of a.config a.envelope (replica_of a.counts.now a.cells.now a.register) ≡ 0
+none c =
+    let a = c.args in
+    let t = both (lawful a.config a.envelope) _ (sym c.sends.ensures ∙ c.if-not-sends.false) in
+    no-fault _ _ _ t.0 t.1
+
+pub returns-then-not-sends : goal.returns-then-not-sends
+unfolding send_of
+returns-then-not-sends c = rw (sym c.sends.ensures ∙ c.if-not-sends.true) (refl, refl)
+
+pub put_message-requires : goal.put_message-requires
+put_message-requires c = (search rules, search rules, none (goal.at.put_message-requires c).Else-not-sends)
+
+pub returns : goal.returns
+returns c =
+    rw (← fault-sends _ _ _ (none (goal.at.returns c).Else-not-sends) _ _) c.put_message.ensures

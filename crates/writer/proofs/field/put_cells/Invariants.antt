@@ -1,0 +1,23 @@
+-- `put_cells` meets its contract: after j turns the first j cells are written, and in the map.
+use Prim.Native.Nat.{ℕ, ◌-◌}
+use native.Mathlib.Omega.{arith}
+use mathlib.Core.Path.{◌≡◌, refl}
+use mathlib.Core.List.{List}
+use borrow.Author.Rules.{rules}
+use lib.ListN.{length, get_or}
+use Rattle.format.specs.Bytes.{number}
+use Rattle.format.specs.Table.{cell_map, cells}
+use Rattle.writer.proofs.Places.{Written, written_none, written-length, written-room, written_next, written_all}
+use Rattle.writer.proofs.Outlines.{Marked, marked_start, marked_next, marked-small, marked_all}
+use Rattle.writer.proofs.field.put_cells.Given as goal
+
+-- the bytes of cell j
+abbrev pub cell_at : List ℕ → ℕ → List ℕ
+cell_at row j = number (get_or row j 0) 4 (get_or row j 0)
+
+abbrev pub invariant-loop-j : goal.invariant-loop-j
+invariant-loop-j l =
+    (length l.row ≡ 16) × Written l.j 16 (cell_at l.row) l.initial.out l.out l.at l.p × Marked l.j (λ k. get_or l.row k 0) l.map l.power
+
+abbrev pub decreases-loop-j : goal.decreases-loop-j
+decreases-loop-j l = 16 - l.j
