@@ -1,0 +1,11 @@
+-- `tovridsa_result` meets its contract.
+use Rattle.ledger.proofs.Answers.{read_back}
+use borrow.Author.Rules.{rules}
+use mathlib.Core.Path.{◌∙◌}
+use Rattle.host.proofs.desks.tovridsa_result.Goals as goal
+
+pub returns : goal.returns
+returns c =
+    let e = read_back c.of_verdict.result c.of_verdict.type_inv ∙ c.of_verdict.ensures in
+    let told = c.result-told.ensures in
+    cc
