@@ -4,6 +4,7 @@ ghost use Rattle.std.specs.Prelude.{◌≡◌, ◌≤◌, length};
 use super::print::{hex, item, refusal, word};
 use config::Number;
 use script::MOST_BYTES;
+use std::io::{self, Stdout};
 
 // What every byte of a buffer is before a call.
 const MARK: u8 = 165;
@@ -41,53 +42,53 @@ pub(crate) fn lent(len: u64) -> usize
 
 // What a call answered that was lent the front of `space` from `at` on: the place after the message and the message; `ok` alone where it wrote none;
 // `spoiled` where another byte changed.
-pub(crate) fn written(answer: Number, at: usize, space: &[u8]) {
+pub(crate) fn written(out: &Stdout, answer: Number, at: usize, space: &[u8]) -> io::Result<()> {
     match answer {
-        Number::Value(next) => message(at, next as usize, space),
+        Number::Value(next) => message(out, at, next as usize, space),
         Number::Refused(r) => {
             if is_marked(space) {
-                refusal(r);
+                refusal(out, r)
             } else {
-                spoiled();
+                spoiled(out)
             }
         }
     }
 }
 
-fn message(at: usize, next: usize, space: &[u8]) {
+fn message(out: &Stdout, at: usize, next: usize, space: &[u8]) -> io::Result<()> {
     if at == next {
-        unwritten(space);
-        return;
+        unwritten(out, space)?;
+        return Ok(());
     }
     if next < at {
-        spoiled();
-        return;
+        spoiled(out)?;
+        return Ok(());
     }
     if space.len() < next {
-        spoiled();
-        return;
+        spoiled(out)?;
+        return Ok(());
     }
     if !is_marked(&space[..at]) {
-        spoiled();
-        return;
+        spoiled(out)?;
+        return Ok(());
     }
     if !is_marked(&space[next..]) {
-        spoiled();
-        return;
+        spoiled(out)?;
+        return Ok(());
     }
-    item(b"ok ", next as u64);
-    word(b" ");
-    hex(&space[at..next]);
+    item(out, b"ok ", next as u64)?;
+    word(out, b" ")?;
+    hex(out, &space[at..next])
 }
 
-fn unwritten(space: &[u8]) {
+fn unwritten(out: &Stdout, space: &[u8]) -> io::Result<()> {
     if is_marked(space) {
-        word(b"ok");
+        word(out, b"ok")
     } else {
-        spoiled();
+        spoiled(out)
     }
 }
 
-fn spoiled() {
-    word(b"spoiled");
+fn spoiled(out: &Stdout) -> io::Result<()> {
+    word(out, b"spoiled")
 }

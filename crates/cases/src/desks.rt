@@ -5,87 +5,93 @@ use super::record::{print_desk, print_value};
 use config::{Signed, Verdict};
 use desk::{Desk, DeskAnswer, Hearing, Told};
 use script::DeskCall;
+use std::io::{self, Stdout};
 
 // Makes a call, answers it, and hands back the record that the call left.
-pub(crate) fn call_desk(desk: Desk, call: DeskCall, bytes: &[u8]) -> Desk {
+pub(crate) fn call_desk(
+    out: &Stdout,
+    desk: Desk,
+    call: DeskCall,
+    bytes: &[u8],
+) -> io::Result<Desk> {
     match call {
-        DeskCall::BeginRead(note) => changed(desk.begin_read(note)),
-        DeskCall::BeginWrite(note) => changed(desk.begin_write(note, bytes)),
+        DeskCall::BeginRead(note) => changed(out, desk.begin_read(note)),
+        DeskCall::BeginWrite(note) => changed(out, desk.begin_write(note, bytes)),
         DeskCall::Ask(server, at, len) => {
-            ask(desk, server, at as usize, len);
-            desk
+            ask(out, desk, server, at as usize, len)?;
+            Ok(desk)
         }
-        DeskCall::Hear => hear(desk, bytes),
+        DeskCall::Hear => hear(out, desk, bytes),
         DeskCall::Result => {
-            result(desk.result());
-            desk
+            result(out, desk.result())?;
+            Ok(desk)
         }
         DeskCall::Margin => {
-            margin(desk.margin());
-            desk
+            margin(out, desk.margin())?;
+            Ok(desk)
         }
-        DeskCall::Drop => changed(desk.drop()),
+        DeskCall::Drop => changed(out, desk.drop()),
         DeskCall::Record => {
-            print_desk(desk);
-            desk
+            print_desk(out, desk)?;
+            Ok(desk)
         }
     }
 }
 
-fn changed(answer: DeskAnswer) -> Desk {
+fn changed(out: &Stdout, answer: DeskAnswer) -> io::Result<Desk> {
     let told = answer.verdict;
     let desk = answer.desk;
-    verdict(told);
-    desk
+    verdict(out, told)?;
+    Ok(desk)
 }
 
-fn ask(desk: Desk, server: u64, at: usize, len: u64) {
+fn ask(out: &Stdout, desk: Desk, server: u64, at: usize, len: u64) -> io::Result<()> {
     let mut space = marked();
     let end = lent(len);
     let answer = desk.ask(server, &mut space[..end], at);
-    written(answer, at, &space);
+    written(out, answer, at, &space)
 }
 
-fn hear(desk: Desk, msg: &[u8]) -> Desk {
+fn hear(out: &Stdout, desk: Desk, msg: &[u8]) -> io::Result<Desk> {
     let heard = desk.hear(msg);
     let hearing = heard.hearing;
     let after = heard.desk;
     match hearing {
-        Hearing::Accepted => word(b"ok"),
-        Hearing::Late => word(b"late"),
-        Hearing::Refused(r) => refusal(r),
+        Hearing::Accepted => word(out, b"ok")?,
+        Hearing::Late => word(out, b"late")?,
+        Hearing::Refused(r) => refusal(out, r)?,
     }
-    after
+    Ok(after)
 }
 
 // The kind, the tag, the restarts and the value.
-fn result(told: Told) {
+fn result(out: &Stdout, told: Told) -> io::Result<()> {
     let answer = told.verdict;
     if let Verdict::Refused(r) = answer {
-        refusal(r);
-        return;
+        refusal(out, r)?;
+        return Ok(());
     }
     let register = told.register;
     let value = register.value;
     if told.kind == 1 {
-        word(b"ok read");
+        word(out, b"ok read")?;
     } else {
-        word(b"ok write");
+        word(out, b"ok write")?;
     }
-    item(b" ", register.stamp as u64);
-    item(b" ", register.desk as u64);
-    item(b" ", told.restarts as u64);
-    word(b" ");
-    print_value(value);
+    item(out, b" ", register.stamp as u64)?;
+    item(out, b" ", register.desk as u64)?;
+    item(out, b" ", told.restarts as u64)?;
+    word(out, b" ")?;
+    print_value(out, value)
 }
 
 // Twice the weight of the servers that answered, less W.
-fn margin(answer: Signed) {
+fn margin(out: &Stdout, answer: Signed) -> io::Result<()> {
     match answer {
         Signed::Value(x) => {
-            word(b"ok ");
-            signed(x);
+            word(out, b"ok ")?;
+            signed(out, x)
         }
-        Signed::Refused(r) => refusal(r),
+        Signed::Refused(r) => refusal(out, r),
     }
 }

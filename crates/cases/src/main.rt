@@ -16,9 +16,9 @@ mod writing;
 ghost use Rattle.std.specs.Prelude.{◌≡◌, length};
 
 use cluster::Cluster;
-use libc::STDIN_FILENO;
 use run::answer_line;
 use script::House;
+use std::io::{self, Read, Stdout};
 
 // The room for a line: a character more than the longest, so that one that is too long is known by its filling it.
 const LINE: usize = 8193;
@@ -30,11 +30,11 @@ fn empty_line() -> [u8; LINE]
 }
 
 // Answers what has come of a line.
-fn finish(cluster: Cluster, line: &[u8], filled: usize) -> Cluster {
+fn finish(out: &Stdout, cluster: Cluster, line: &[u8], filled: usize) -> io::Result<Cluster> {
     if line.len() < filled {
-        return cluster;
+        return Ok(cluster);
     }
-    answer_line(cluster, &line[..filled])
+    answer_line(out, cluster, &line[..filled])
 }
 
 // Keeps a character of a line, where there is room for it, and hands back how much of the line has come.
@@ -50,7 +50,13 @@ fn keep(line: &mut [u8], filled: usize, character: u8) -> usize
 }
 
 // Takes what was read: answers each line that it ends, and keeps the rest. `filled` is how much of a line has come.
-fn take(cluster: Cluster, line: &mut [u8], filled: &mut usize, read: &[u8]) -> Cluster
+fn take(
+    out: &Stdout,
+    cluster: Cluster,
+    line: &mut [u8],
+    filled: &mut usize,
+    read: &[u8],
+) -> io::Result<Cluster>
     requires { 8193 ≡ length line.old }
     ensures { 8193 ≡ length line.new }
 {
@@ -59,7 +65,7 @@ fn take(cluster: Cluster, line: &mut [u8], filled: &mut usize, read: &[u8]) -> C
     let mut k: usize = 0;
     while k < read.len() {
         if read[k] == b'\n' {
-            next = finish(next, line, end);
+            next = finish(out, next, line, end)?;
             end = 0;
         } else {
             end = keep(line, end, read[k]);
@@ -67,25 +73,25 @@ fn take(cluster: Cluster, line: &mut [u8], filled: &mut usize, read: &[u8]) -> C
         k += 1;
     }
     *filled = end;
-    next
+    Ok(next)
 }
 
-// Reads what is there, once. A proved loop has to end, and nothing says that the input does: so the loop counts its turns down, from a number that no
-// run uses up. At the input's end the last line may lack its line feed.
-fn main() {
+// Reads what is there, turn by turn. A proved loop has to end, and nothing says that the input does: so the turns are counted, up to a number that no run
+// uses up. At the input's end the last line may lack its line feed.
+fn main(rt: HostRuntime) -> io::Result<()> {
     let mut line = empty_line();
     let mut filled: usize = 0;
     let mut cluster = Cluster::fresh(House::level(0, 0));
-    let mut turns = u64::MAX;
-    while turns > 0 {
-        let mut buffer = io::buffer();
-        let got = libc::read(STDIN_FILENO, &mut buffer);
-        if got <= 0 {
-            finish(cluster, &line, filled);
-            return;
+    let out = rt.stdout();
+    let mut input = rt.reader();
+    for _ in 0..u64::MAX {
+        let mut buffer: [u8; 4096] = [0; 4096];
+        let n = input.read(&mut buffer)?;
+        if n == 0 {
+            finish(&out, cluster, &line, filled)?;
+            return Ok(());
         }
-        let n = io::count(got, &buffer);
-        cluster = take(cluster, &mut line, &mut filled, &buffer[..n]);
-        turns -= 1;
+        cluster = take(&out, cluster, &mut line, &mut filled, &buffer[..n])?;
     }
+    Ok(())
 }

@@ -5,26 +5,32 @@ use ledger::count_named;
 use reader::{check, quorum, value, weight};
 use script::Query;
 use seats::on_offer;
+use std::io::{self, Stdout};
 
-pub(crate) fn ask_about(config: Config, query: Query, bytes: &[u8]) {
+pub(crate) fn ask_about(
+    out: &Stdout,
+    config: Config,
+    query: Query,
+    bytes: &[u8],
+) -> io::Result<()> {
     match query {
         Query::Check => match check(config, bytes) {
-            Verdict::Accepted => number(0),
-            Verdict::Refused(r) => code(r),
+            Verdict::Accepted => number(out, 0),
+            Verdict::Refused(r) => code(out, r),
         },
         Query::Weight(server) => match weight(config, server, bytes) {
-            Signed::Value(x) => signed(x),
-            Signed::Refused(r) => code(r),
+            Signed::Value(x) => signed(out, x),
+            Signed::Refused(r) => code(out, r),
         },
         Query::Quorum(map) => match quorum(config, map, bytes) {
-            Signed::Value(x) => signed(x),
-            Signed::Refused(r) => code(r),
+            Signed::Value(x) => signed(out, x),
+            Signed::Refused(r) => code(out, r),
         },
         Query::Seats => match on_offer(bytes) {
-            Number::Value(x) => number(x),
-            Number::Refused(r) => code(r),
+            Number::Value(x) => number(out, x),
+            Number::Refused(r) => code(out, r),
         },
-        Query::Named(map) => answer(count_named(config, map)),
-        Query::Value => hex(value(config, bytes)),
+        Query::Named(map) => answer(out, count_named(config, map)),
+        Query::Value => hex(out, value(config, bytes)),
     }
 }

@@ -7,6 +7,7 @@ use super::writing::is_written_again;
 use config::{Config, Verdict};
 use message::Fields;
 use reader::{check, fields, receive, value};
+use std::io::{self, Stdout};
 
 // The number of a verdict; 0 where it accepts.
 fn number_of(verdict: Verdict) -> u64 {
@@ -17,7 +18,7 @@ fn number_of(verdict: Verdict) -> u64 {
 }
 
 // The answer to a message; `longer` is the message with a zero byte more.
-pub(crate) fn answer_message(config: Config, longer: &[u8])
+pub(crate) fn answer_message(out: &Stdout, config: Config, longer: &[u8]) -> io::Result<()>
     requires { (1 ≤ length longer.now) × (length longer.now ≤ 2049) }
 {
     let end = longer.len() - 1;
@@ -27,49 +28,50 @@ pub(crate) fn answer_message(config: Config, longer: &[u8])
     let verdict = read.verdict;
     let part = value(config, msg);
     if number_of(verdict) != found {
-        refused(found, false);
-        return;
+        refused(out, found, false)?;
+        return Ok(());
     }
     if found != 0 {
-        refused(found, part.len() == 0);
-        return;
+        refused(out, found, part.len() == 0)?;
+        return Ok(());
     }
-    accepted(config, read, part);
-    tried(config, msg, longer);
-    again(config, msg);
+    accepted(out, config, read, part)?;
+    tried(out, config, msg, longer)?;
+    again(out, config, msg)
 }
 
 // `agreed`: all three calls refuse the message, by the same number.
-fn refused(number: u64, agreed: bool) {
-    item(b"no ", number);
+fn refused(out: &Stdout, number: u64, agreed: bool) -> io::Result<()> {
+    item(out, b"no ", number)?;
     if !agreed {
-        word(b" MISMATCH");
+        word(out, b" MISMATCH")?;
     }
+    Ok(())
 }
 
 // The fields of a message.
-fn accepted(config: Config, read: Fields, part: &[u8]) {
+fn accepted(out: &Stdout, config: Config, read: Fields, part: &[u8]) -> io::Result<()> {
     let envelope = read.envelope;
     let tag = read.tag;
     let ledger = read.ledger;
-    item(b"ok kind ", envelope.kind as u64);
-    item(b" server ", envelope.server as u64);
-    item(b" desk ", envelope.desk as u64);
-    item(b" round ", envelope.round as u64);
-    item(b" tag ", tag.stamp as u64);
-    item(b" ", tag.desk as u64);
-    item(b" note ", envelope.note as u64);
-    word(b" value ");
-    hex(part);
-    word(b" weights");
-    weights(config, ledger);
+    item(out, b"ok kind ", envelope.kind as u64)?;
+    item(out, b" server ", envelope.server as u64)?;
+    item(out, b" desk ", envelope.desk as u64)?;
+    item(out, b" round ", envelope.round as u64)?;
+    item(out, b" tag ", tag.stamp as u64)?;
+    item(out, b" ", tag.desk as u64)?;
+    item(out, b" note ", envelope.note as u64)?;
+    word(out, b" value ")?;
+    hex(out, part)?;
+    word(out, b" weights")?;
+    weights(out, config, ledger)
 }
 
 // The check of the message cut short, at every length, and of the message with a zero byte more.
-fn tried(config: Config, msg: &[u8], longer: &[u8]) {
-    item(b" cut ", torn(config, msg) as u64);
-    item(b" of ", msg.len() as u64);
-    item(b" longer ", number_of(check(config, longer)));
+fn tried(out: &Stdout, config: Config, msg: &[u8], longer: &[u8]) -> io::Result<()> {
+    item(out, b" cut ", torn(config, msg) as u64)?;
+    item(out, b" of ", msg.len() as u64)?;
+    item(out, b" longer ", number_of(check(config, longer)))
 }
 
 // How many of the message's proper prefixes are torn (2).
@@ -85,16 +87,16 @@ fn torn(config: Config, msg: &[u8]) -> usize {
     count
 }
 
-fn again(config: Config, msg: &[u8])
+fn again(out: &Stdout, config: Config, msg: &[u8]) -> io::Result<()>
     requires { length msg.now ≤ 2048 }
 {
-    word(b" again ");
+    word(out, b" again ")?;
     let got = receive(config, msg);
     let envelope = got.envelope;
     let replica = got.replica;
     if is_written_again(config, envelope, replica, msg) {
-        word(b"same");
+        word(out, b"same")
     } else {
-        word(b"other");
+        word(out, b"other")
     }
 }
