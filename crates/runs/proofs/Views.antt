@@ -12,7 +12,7 @@ use Rattle.quorums.specs.Sum.{sum}
 use Rattle.config.specs.Cluster.{House, config_of, lawful_of}
 use Rattle.config.specs.declared.cluster.Config.{Config}
 use Rattle.ledger.specs.Ledgers.{count_of}
-use Rattle.desk.specs.Desks.{fresh_desk, blank_desk}
+use Rattle.desk.specs.Desks.{blank_desk}
 use Rattle.machine.specs.Parties.{Register, Phase, first, second, by-phase, Operation, Activity, idle, running, ended, fresh_desk as plain_fresh}
 use Rattle.machine.specs.Runs.{most_desk, at, desk_at}
 use Rattle.machine.specs.Steps.{PlainRun}

@@ -1,6 +1,5 @@
 -- `tovridsa_check` meets its contract: the code of the call's answer.
 use mathlib.Core.Path.{◌≡◌, ap, ◌∙◌}
-use borrow.Author.Rules.{rules}
 use Rattle.message.specs.Answers.{check_answer}
 use Rattle.ledger.proofs.Answers.{read_back}
 use Rattle.host.specs.Codes.{verdict_code, check_code}

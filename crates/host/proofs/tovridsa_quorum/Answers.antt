@@ -1,6 +1,5 @@
 -- `tovridsa_quorum` meets its contract: the code of the call's answer.
 use mathlib.Core.Path.{◌≡◌, ap, ◌∙◌}
-use borrow.Author.Rules.{rules}
 use Rattle.reader.specs.Weighings.{quorum_in}
 use Rattle.ledger.proofs.Answers.{read_back}
 use Rattle.host.specs.Codes.{signed_code, quorum_code}

@@ -1,6 +1,5 @@
 -- `tovridsa_seats` meets its contract.
 use mathlib.Core.Path.{sym, ap, subst, ◌∙◌}
-use borrow.Author.Rules.{rules}
 use Rattle.ledger.proofs.Answers.{read_back}
 use Rattle.host.specs.Codes.{Within, number_code, seats_code}
 use Rattle.host.proofs.Small.{seats-within}

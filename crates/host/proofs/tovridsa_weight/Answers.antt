@@ -1,6 +1,5 @@
 -- `tovridsa_weight` meets its contract: the code of the call's answer.
 use mathlib.Core.Path.{◌≡◌, ap, ◌∙◌}
-use borrow.Author.Rules.{rules}
 use Rattle.reader.specs.Weighings.{weight_in}
 use Rattle.ledger.proofs.Answers.{read_back}
 use Rattle.host.specs.Codes.{signed_code, weight_code}

@@ -1,6 +1,5 @@
 -- `is_marked` is safe and ends.
 use Prim.Native.Nat.{◌≤◌, ◌-◌}
-use borrow.Author.Rules.{rules}
 use lib.ListN.{length}
 use Rattle.cases.proofs.buffer.is_marked.Given as goal
 

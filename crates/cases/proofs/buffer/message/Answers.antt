@@ -2,7 +2,6 @@
 use native.Mathlib.Omega.{arith}
 use mathlib.Core.Path.{sym}
 use lib.Seq.{length-take-le}
-use borrow.Author.Rules.{rules}
 use Rattle.cases.proofs.buffer.message.Goals as goal
 
 pub slice_bounds-is_marked-end : goal.slice_bounds-is_marked-end

@@ -1,6 +1,5 @@
 -- `first_place` is safe and ends.
 use Prim.Native.Nat.{◌≤◌, ◌-◌}
-use borrow.Author.Rules.{rules}
 use Rattle.cases.proofs.cluster.first_place.Given as goal
 
 abbrev pub invariant-loop-k : goal.invariant-loop-k

@@ -1,7 +1,6 @@
 -- `config_of` is safe: the start weights that are kept lie within the array.
 use mathlib.Core.Path.{sym}
 use lib.Seq.{length-take-le}
-use borrow.Author.Rules.{rules}
 use Rattle.cases.proofs.Houses.{kept-fits}
 use Rattle.cases.proofs.house.config_of.Goals.{After-kept-end}
 use Rattle.cases.proofs.house.config_of.Goals as goal

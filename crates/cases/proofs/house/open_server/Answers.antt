@@ -1,7 +1,6 @@
 -- `open_server` is safe: the start weights that are kept lie within the array.
 use mathlib.Core.Path.{sym}
 use lib.Seq.{length-take-le}
-use borrow.Author.Rules.{rules}
 use Rattle.cases.proofs.Houses.{kept-fits}
 use Rattle.cases.proofs.house.open_server.Goals.{After-kept-end}
 use Rattle.cases.proofs.house.open_server.Goals as goal

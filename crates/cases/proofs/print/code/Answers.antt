@@ -1,7 +1,6 @@
 -- `code` is safe: the largest number of a refusal is small.
 use native.Mathlib.Omega.{arith}
 use Prim.Native.Nat.{◌≤◌}
-use borrow.Author.Rules.{rules}
 use Rattle.config.specs.Refusals.{number_of, most_refusal}
 use Rattle.config.specs.declared.answer.Refusal.{Refusal}
 use Rattle.config.proofs.Refusals.{meaning-number, meaning-told}

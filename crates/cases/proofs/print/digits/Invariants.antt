@@ -1,10 +1,7 @@
 -- `digits` is safe and ends: it stops at the end of the room.
-use native.Mathlib.Omega.{arith}
 use Prim.Native.Nat.{◌≤◌, ◌-◌}
-use mathlib.Core.Path.{◌≡◌, sym}
+use mathlib.Core.Path.{◌≡◌}
 use lib.ListN.{length}
-use lib.Seq.{length-take-le}
-use borrow.Author.Rules.{rules}
 use Rattle.cases.proofs.print.digits.Given as goal
 
 abbrev pub invariant-loop-at : goal.invariant-loop-at

@@ -1,5 +1,4 @@
 -- `signed` is safe: −1 − x of a negative number does not wrap, and can be cast.
-use borrow.Author.Rules.{rules}
 use lib.IntN.{negsuc, ◌-ℤ◌}
 use mir.Syntax.{w64}
 use mir.Val.{SFits, to_z, of_z}

@@ -2,7 +2,6 @@
 use Prim.Native.Nat.{◌-◌}
 use native.Mathlib.Omega.{arith}
 use mathlib.Core.Path.{sym}
-use borrow.Author.Rules.{rules}
 use lib.ListN.{length, length-take}
 use lib.Seq.{length-take-le}
 use Rattle.cases.proofs.reading.answer_message.Goals as goal

@@ -1,11 +1,6 @@
 -- `torn` is safe and ends: it counts no more prefixes than it passed.
 use Prim.Native.Nat.{◌≤◌, ◌-◌}
-use native.Mathlib.Omega.{arith}
-use mathlib.Core.Logic.{⊎_elim}
-use mathlib.Core.Path.{sym}
-use borrow.Author.Rules.{rules}
 use lib.ListN.{length}
-use lib.Seq.{length-take-le}
 use Rattle.cases.proofs.reading.torn.Given as goal
 
 abbrev pub invariant-loop-k : goal.invariant-loop-k

@@ -1,6 +1,5 @@
 -- `cells` is safe and ends.
 use Prim.Native.Nat.{◌≤◌, ◌-◌}
-use borrow.Author.Rules.{rules}
 use Rattle.cases.proofs.record.cells.Given as goal
 
 abbrev pub invariant-loop-k : goal.invariant-loop-k

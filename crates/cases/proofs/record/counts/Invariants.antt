@@ -1,6 +1,5 @@
 -- `counts` is safe and ends.
 use Prim.Native.Nat.{◌≤◌, ◌-◌}
-use borrow.Author.Rules.{rules}
 use Rattle.cases.proofs.record.counts.Given as goal
 
 abbrev pub invariant-loop-i : goal.invariant-loop-i

@@ -1,7 +1,6 @@
 -- `print_value` is safe: a value has no more than its 64 bytes.
 use mathlib.Core.Path.{sym}
 use lib.Seq.{length-take-le}
-use borrow.Author.Rules.{rules}
 use native.Mathlib.Omega.{arith}
 use Rattle.replica.specs.Values.{Typed}
 use Rattle.replica.proofs.Ranges.{value-is-typed}

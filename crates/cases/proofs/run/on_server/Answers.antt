@@ -1,8 +1,6 @@
 -- `on_server` is safe: a server of a cluster has one of the 16 places.
 use mathlib.Core.Path.{sym, ◌∙◌}
-use borrow.Author.Tests.{not-false}
 use Rattle.config.proofs.Clusters.{server-small}
-use borrow.Author.Rules.{rules}
 use Rattle.cases.proofs.run.on_server.Goals as goal
 
 pub at_server-requires : goal.at_server-requires

@@ -1,10 +1,6 @@
 -- `holds` is safe and ends: the message and the bytes around it lie within the buffer.
 use Prim.Native.Nat.{◌≤◌, ◌-◌}
-use native.Mathlib.Omega.{arith}
-use mathlib.Core.Path.{sym}
 use lib.ListN.{length}
-use lib.Seq.{length-take-le}
-use borrow.Author.Rules.{rules}
 use Rattle.cases.proofs.writing.holds.Given as goal
 
 abbrev pub invariant-loop-k : goal.invariant-loop-k

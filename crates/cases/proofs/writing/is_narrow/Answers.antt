@@ -1,7 +1,6 @@
 -- `is_narrow` is safe: the part that is lent lies within the array, which keeps its length.
 use native.Mathlib.Omega.{arith}
 use mathlib.Core.Path.{sym, ◌∙◌}
-use borrow.Author.Rules.{rules}
 use lib.Seq.{length-take-le, length_front}
 use Rattle.cases.proofs.writing.is_narrow.Goals as goal
 

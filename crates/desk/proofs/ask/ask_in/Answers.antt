@@ -2,8 +2,6 @@
 use native.Mathlib.Omega.{arith}
 use mathlib.Core.Path.{◌≡◌, sym, ap, ◌∙◌}
 use mathlib.Core.Bool.{true, cond}
-use borrow.Author.Rules.{rules}
-use borrow.Author.Tests.{not-true, not-false}
 use Rattle.config.specs.declared.answer.Number.{Number}
 use Rattle.config.specs.Refusals.{refusal}
 use Rattle.config.proofs.Clusters.{valid-bounds}

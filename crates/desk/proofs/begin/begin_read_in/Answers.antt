@@ -1,7 +1,6 @@
 -- `begin_read_in` meets its contract: its verdict is that of the begin of a read, whose value is empty, and what changes follows from it.
 use mathlib.Core.Path.{◌≡◌, sym, ◌∙◌}
 use mathlib.Core.List.{[]}
-use borrow.Author.Rules.{rules}
 use Rattle.desk.specs.declared.record.DeskAnswer.{DeskAnswer}
 use Rattle.desk.specs.Parts.{desk_of}
 use Rattle.desk.specs.Operations.{reading}

@@ -1,6 +1,5 @@
 -- `begin_write_in` meets its contract: its verdict is that of the begin of a write, and what changes follows from it.
 use mathlib.Core.Path.{◌≡◌, sym, ◌∙◌}
-use borrow.Author.Rules.{rules}
 use Rattle.desk.specs.declared.record.DeskAnswer.{DeskAnswer}
 use Rattle.desk.specs.Parts.{desk_of}
 use Rattle.desk.specs.Operations.{writing}

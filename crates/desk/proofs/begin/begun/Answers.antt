@@ -2,7 +2,6 @@
 use Prim.Native.Nat.{suc, ◌+◌}
 use native.Mathlib.Omega.{arith}
 use mathlib.Core.Path.{◌≡◌, sym, ap, ap₂, ◌∙◌}
-use borrow.Author.Rules.{rules}
 use Rattle.config.specs.declared.answer.Verdict.{Verdict}
 use Rattle.desk.specs.declared.begin.Turned.{Turned}
 use Rattle.desk.specs.Begins.{begun_of}

@@ -1,8 +1,7 @@
 -- `drop_in` meets its contract.
 use mathlib.Core.Path.{◌≡◌, sym, ap, ◌∙◌}
 use mathlib.Core.Bool.{true}
-use borrow.Author.Rules.{rules}
-use borrow.Author.Tests.{eq-eqb, ne_eqb, not-true, not-false}
+use borrow.Author.Tests.{eq-eqb, ne_eqb}
 use Rattle.desk.specs.declared.record.Desk.{Desk}
 use Rattle.desk.specs.Parts.{desk_of}
 use Rattle.desk.specs.Desks.{fits, accepted, turned}

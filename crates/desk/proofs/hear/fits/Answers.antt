@@ -1,5 +1,4 @@
 -- `fits` meets its contract: a ledger that passed leaves the register to decide, and one that did not fits with none.
-use borrow.Author.Rules.{rules}
 use Rattle.desk.proofs.hear.fits.Goals as goal
 
 pub returns : goal.returns

@@ -1,6 +1,5 @@
 -- `stray` meets its contract: the kind first, then the desk.
 use mathlib.Core.Path.{refl}
-use borrow.Author.Rules.{rules}
 use borrow.Author.Tests.{eq-eqb, ne_eqb}
 use Rattle.desk.proofs.hear.stray.Goals as goal
 

@@ -1,7 +1,6 @@
 -- `mark` meets its contract: with a quorum the desk chooses or finishes, and without one it waits.
 use mathlib.Core.Path.{◌≡◌, ap}
 use mathlib.Core.Bool.{true, false}
-use borrow.Author.Rules.{rules}
 use borrow.Author.Tests.{eq-eqb, ne_eqb}
 use lib.IntN.{pos}
 use lib.Signed.{lt_z}

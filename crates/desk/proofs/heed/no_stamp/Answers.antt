@@ -1,5 +1,4 @@
 -- `no_stamp` meets its contract: only a write needs a stamp, and it has one left while the stamp held is below the largest.
-use borrow.Author.Rules.{rules}
 use borrow.Author.Tests.{eq-eqb, ne_eqb}
 use Rattle.quorums.proofs.Tests.{leb-not}
 use Rattle.config.specs.Cluster.{most_stamp}

@@ -1,8 +1,7 @@
 -- `margin_in` meets its contract: what is weighed decides the record test, and has the margin.
 use mathlib.Core.Path.{◌≡◌, sym, ap, ◌∙◌}
 use mathlib.Core.Bool.{true, false}
-use borrow.Author.Rules.{rules}
-use borrow.Author.Tests.{eq-eqb, ne_eqb, not-true, not-false}
+use borrow.Author.Tests.{eq-eqb, ne_eqb}
 use Rattle.config.specs.declared.answer.Signed.{Signed}
 use Rattle.ledger.proofs.Answers.{read_back}
 use Rattle.desk.specs.declared.record.Desk.{Desk}

@@ -1,6 +1,5 @@
 -- `map_lawful` meets its contract: after n bits nothing of the map is left.
 use native.Mathlib.Omega.{arith}
-use borrow.Author.Rules.{rules}
 use Rattle.config.proofs.Clusters.{valid-bounds}
 use Rattle.ledger.specs.Maps.{map_of}
 use Rattle.ledger.proofs.Maps.{shifted-zero}

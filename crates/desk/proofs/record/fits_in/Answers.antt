@@ -1,8 +1,6 @@
 -- `fits_in` meets its contract: the replica may be tested first, and one that fits has a cluster within bounds.
 use mathlib.Core.Path.{◌≡◌, sym, ◌∙◌}
 use mathlib.Core.Bool.{true}
-use borrow.Author.Rules.{rules}
-use borrow.Author.Tests.{not-true, not-false}
 use Rattle.replica.specs.Parts.{replica_of}
 use Rattle.replica.specs.Replicas.{fits}
 use Rattle.desk.proofs.Desks.{replica-valid, replica-first}

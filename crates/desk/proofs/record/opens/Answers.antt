@@ -1,8 +1,6 @@
 -- `opens` meets its contract, test by test.
 use mathlib.Core.Path.{sym, ◌∙◌}
-use borrow.Author.Tests.{not-true, not-false}
 use Rattle.desk.specs.Desks as D
-use borrow.Author.Rules.{rules}
 use Rattle.desk.proofs.record.opens.Goals as goal
 
 pub returns-then-not-number_lawful : goal.returns-then-not-number_lawful

@@ -1,8 +1,6 @@
 -- `sound_in` meets its contract: where n and f are out of bounds, no number and no operation make up for them.
 use mathlib.Core.Path.{sym, ◌∙◌}
 use mathlib.Core.Bool.{false≢true}
-use borrow.Author.Rules.{rules}
-use borrow.Author.Tests.{not-true, not-false}
 use Rattle.quorums.proofs.Tests.{test-false}
 use Rattle.desk.proofs.Desks.{sound-told}
 use Rattle.desk.proofs.record.sound_in.Goals as goal

@@ -1,7 +1,5 @@
 -- `sound_within` meets its contract: the number, and then the operation, of a cluster that is one.
 use mathlib.Core.Path.{sym, ◌∙◌}
-use borrow.Author.Rules.{rules}
-use borrow.Author.Tests.{not-true, not-false}
 use Rattle.desk.specs.Desks.{sound}
 use Rattle.desk.proofs.record.sound_within.Goals as goal
 

@@ -1,6 +1,5 @@
 -- `untold` meets its contract: every field is 0.
 use mathlib.Core.Path.{ap}
-use borrow.Author.Rules.{rules}
 use Rattle.config.specs.declared.answer.Verdict.{Verdict}
 use Rattle.replica.specs.declared.register.Register.{Register}
 use Rattle.desk.specs.declared.result.Told.{Told}

@@ -1,7 +1,6 @@
 -- `of_done` meets its contract.
 use Rattle.ledger.proofs.Answers.{read_back}
 use Rattle.host.specs.Codes.{done_code}
-use borrow.Author.Rules.{rules}
 use mathlib.Core.Path.{sym, ap, ◌∙◌}
 use Rattle.host.proofs.code.of_done.Goals as goal
 

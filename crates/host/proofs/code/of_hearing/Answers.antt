@@ -1,7 +1,6 @@
 -- `of_hearing` meets its contract.
 use Rattle.ledger.proofs.Answers.{read_back}
 use Rattle.host.specs.Codes.{hearing_code}
-use borrow.Author.Rules.{rules}
 use mathlib.Core.Path.{sym, ap, ◌∙◌}
 use Rattle.host.proofs.code.of_hearing.Goals as goal
 

@@ -2,7 +2,6 @@
 use Rattle.ledger.proofs.Answers.{read_back}
 use Rattle.host.specs.Codes.{number_code}
 use Rattle.host.proofs.Small.{within-value}
-use borrow.Author.Rules.{rules}
 use mir.Syntax.{w64}
 use mir.Facts.{to_z_pos}
 use native.Mathlib.Omega.{arith}

@@ -1,6 +1,5 @@
 -- `of_verdict` meets its contract.
 use mathlib.Core.Path.{sym, ap, ◌∙◌}
-use borrow.Author.Rules.{rules}
 use Rattle.ledger.proofs.Answers.{read_back}
 use Rattle.host.specs.Codes.{verdict_code}
 use Rattle.host.proofs.code.of_verdict.Goals as goal

@@ -1,6 +1,5 @@
 -- `of_desk` meets its contract.
 use Rattle.ledger.proofs.Answers.{read_back}
-use borrow.Author.Rules.{rules}
 use mathlib.Core.Path.{◌∙◌}
 use Rattle.host.proofs.desks.of_desk.Goals as goal
 

@@ -2,7 +2,6 @@
 use mathlib.Core.Path.{ap₂, ◌∙◌}
 use Rattle.ledger.proofs.Answers.{read_back}
 use Rattle.host.specs.declared.desks.AnsweredDesk.{AnsweredDesk}
-use borrow.Author.Rules.{rules}
 use Rattle.host.proofs.desks.of_turned.Goals as goal
 
 pub returns : goal.returns

@@ -4,7 +4,6 @@ use Rattle.desk.specs.declared.begin.Turned.{Turned}
 use Rattle.desk.specs.Begins.{answer_of}
 use Rattle.desk.proofs.Begins.{begin-whole}
 use Rattle.host.specs.Calls.{desk_code}
-use borrow.Author.Rules.{rules}
 use Rattle.host.proofs.desks.tovridsa_begin_write.Goals as goal
 
 pub returns : goal.returns

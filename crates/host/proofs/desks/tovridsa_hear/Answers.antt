@@ -1,7 +1,6 @@
 -- `tovridsa_hear` meets its contract: the parts that hear hands back, with the rest of the record, are the record that it leaves.
 use Rattle.ledger.proofs.Answers.{read_back}
 use Rattle.desk.proofs.Answers.{answers-whole}
-use borrow.Author.Rules.{rules}
 use mathlib.Core.Path.{◌≡◌, refl, ◌∙◌}
 use lib.IntN.{ℤ}
 use Rattle.desk.specs.declared.record.Heard.{Heard}

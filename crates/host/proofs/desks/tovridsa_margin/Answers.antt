@@ -1,6 +1,5 @@
 -- `tovridsa_margin` meets its contract: the code of the call's answer.
 use mathlib.Core.Path.{ap, ◌∙◌}
-use borrow.Author.Rules.{rules}
 use Rattle.ledger.proofs.Answers.{read_back}
 use Rattle.host.specs.Codes.{signed_code}
 use Rattle.host.proofs.desks.tovridsa_margin.Goals as goal

@@ -1,6 +1,5 @@
 -- `tovridsa_open_desk` meets its contract.
 use Rattle.host.specs.Calls.{desk_code}
-use borrow.Author.Rules.{rules}
 use mathlib.Core.Path.{ap, ◌∙◌}
 use Rattle.host.proofs.desks.tovridsa_open_desk.Goals as goal
 

@@ -1,6 +1,5 @@
 -- `tovridsa_result` meets its contract.
 use Rattle.ledger.proofs.Answers.{read_back}
-use borrow.Author.Rules.{rules}
 use mathlib.Core.Path.{◌∙◌}
 use Rattle.host.proofs.desks.tovridsa_result.Goals as goal
 

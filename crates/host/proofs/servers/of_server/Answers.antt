@@ -1,6 +1,5 @@
 -- `of_server` meets its contract.
 use Rattle.ledger.proofs.Answers.{read_back}
-use borrow.Author.Rules.{rules}
 use mathlib.Core.Path.{◌∙◌}
 use Rattle.host.proofs.servers.of_server.Goals as goal
 

@@ -1,6 +1,5 @@
 -- `tovridsa_open_server` meets its contract.
 use Rattle.host.specs.Calls.{server_code}
-use borrow.Author.Rules.{rules}
 use mathlib.Core.Path.{ap, ◌∙◌}
 use Rattle.host.proofs.servers.tovridsa_open_server.Goals as goal
 

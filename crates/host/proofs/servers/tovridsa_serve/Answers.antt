@@ -2,7 +2,6 @@
 use Prim.Native.Nat.{ℕ}
 use mathlib.Core.Path.{◌≡◌, refl, ap, ◌∙◌}
 use lib.IntN.{ℤ}
-use borrow.Author.Rules.{rules}
 use Rattle.config.specs.declared.answer.Number.{Number}
 use Rattle.ledger.proofs.Answers.{read_back}
 use Rattle.server.specs.declared.record.Server.{Server}

@@ -2,7 +2,6 @@
 use Rattle.host.specs.Codes.{Within, number_code}
 use Rattle.host.proofs.Places.{share-ends}
 use Rattle.ledger.proofs.Answers.{read_back}
-use borrow.Author.Rules.{rules}
 use native.Mathlib.Omega.{arith}
 use mathlib.Core.Path.{sym, ap, ◌∙◌, subst}
 use Rattle.host.proofs.servers.tovridsa_share.Goals as goal

@@ -1,6 +1,5 @@
 -- `tovridsa_transfer` meets its contract.
 use Rattle.host.specs.Calls.{server_code}
-use borrow.Author.Rules.{rules}
 use mathlib.Core.Path.{ap, ◌∙◌}
 use Rattle.host.proofs.servers.tovridsa_transfer.Goals as goal
 

@@ -1,7 +1,6 @@
 -- `bit` meets its contract: a shift is a division.
 use native.Mathlib.Omega.{arith}
 use mathlib.Core.Path.{refl}
-use borrow.Author.Rules.{rules}
 use Rattle.format.specs.Bytes.{bit}
 use Rattle.reader.proofs.cursor.bit.Goals as goal
 

@@ -1,8 +1,7 @@
 -- `number_at` meets its contract: after k bytes x is the number in them, below 256 ^ k.
-use Prim.Native.Nat.{◌+◌, ◌*◌, ◌-◌, ◌^◌, ◌≤◌, ◌<◌}
+use Prim.Native.Nat.{◌+◌, ◌*◌}
 use native.Mathlib.Omega.{arith}
 use mathlib.Core.Path.{◌≡◌, refl}
-use borrow.Author.Rules.{rules}
 use lib.ListN.{get_or}
 use Rattle.message.specs.Cursors.{number_at}
 use Rattle.reader.proofs.Numbers.{number-next, byte_more, byte-room}

@@ -1,11 +1,7 @@
 -- `number_at` meets its contract: after k bytes x is the number in them, below 256 ^ k.
-use Prim.Native.Nat.{◌+◌, ◌*◌, ◌-◌, ◌^◌, ◌≤◌, ◌<◌}
-use native.Mathlib.Omega.{arith}
-use mathlib.Core.Path.{◌≡◌, refl}
-use borrow.Author.Rules.{rules}
-use lib.ListN.{get_or}
+use Prim.Native.Nat.{◌-◌, ◌^◌, ◌≤◌, ◌<◌}
+use mathlib.Core.Path.{◌≡◌}
 use Rattle.message.specs.Cursors.{number_at}
-use Rattle.reader.proofs.Numbers.{number-next, byte_more, byte-room}
 use Rattle.reader.proofs.cursor.number_at.Given as goal
 
 abbrev pub invariant-loop-k : goal.invariant-loop-k

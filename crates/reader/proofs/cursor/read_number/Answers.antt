@@ -1,6 +1,5 @@
 -- `read_number` meets its contract, test by test.
 use native.Mathlib.Omega.{arith}
-use borrow.Author.Rules.{rules}
 use borrow.Author.Tests.{eq-eqb, ne_eqb}
 use Rattle.message.specs.Cursors.{read_number}
 use Rattle.reader.proofs.cursor.read_number.Goals as goal

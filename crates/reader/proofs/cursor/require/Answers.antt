@@ -1,7 +1,6 @@
 -- `require` meets its contract, test by test.
 use native.Mathlib.Omega.{arith}
 use mathlib.Core.Path.{refl}
-use borrow.Author.Rules.{rules}
 use borrow.Author.Tests.{eq-eqb, ne_eqb}
 use Rattle.message.specs.Cursors.{require}
 use Rattle.reader.proofs.cursor.require.Goals as goal

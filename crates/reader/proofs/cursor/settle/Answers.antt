@@ -1,6 +1,5 @@
 -- `settle` meets its contract.
 use mathlib.Core.Path.{refl, ap}
-use borrow.Author.Rules.{rules}
 use borrow.Author.Tests.{lt-ltb, le-ltb}
 use native.Mathlib.Omega.{arith}
 use Rattle.message.specs.declared.state.Cursor.{Cursor}

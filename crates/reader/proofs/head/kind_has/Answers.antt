@@ -1,6 +1,5 @@
 -- `kind_has` meets its contract, test by test.
 use mathlib.Core.Path.{sym}
-use borrow.Author.Rules.{rules}
 use borrow.Author.Tests.{eq-eqb, ne_eqb}
 use Rattle.message.specs.Scans.{kind_has}
 use Rattle.reader.proofs.head.kind_has.Goals as goal

@@ -1,6 +1,5 @@
 -- `read_head` meets its contract: each field in turn, from the cursor of the one before it.
 use native.Mathlib.Omega.{arith}
-use borrow.Author.Rules.{rules}
 use Rattle.config.proofs.Clusters.{lawful-bounds}
 use Rattle.message.specs.Scans.{head_of}
 use Rattle.reader.proofs.head.read_head.Goals as goal

@@ -1,6 +1,5 @@
 -- `read_kind` meets its contract: the number, then the test of it beside the map.
 use native.Mathlib.Omega.{arith}
-use borrow.Author.Rules.{rules}
 use Rattle.message.specs.Scans.{read_kind}
 use Rattle.reader.proofs.head.read_kind.Goals as goal
 

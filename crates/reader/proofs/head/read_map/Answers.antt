@@ -1,6 +1,5 @@
 -- `read_map` meets its contract: the number, then the test of it.
 use native.Mathlib.Omega.{arith}
-use borrow.Author.Rules.{rules}
 use Rattle.message.specs.Scans.{read_map}
 use Rattle.reader.proofs.head.read_map.Goals as goal
 

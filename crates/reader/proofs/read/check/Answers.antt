@@ -1,7 +1,6 @@
 -- `check` meets its contract: 1 or 15 for the cluster, then the number of the scan.
 use mathlib.Core.Path.{◌≡◌, refl, sym, ap, ◌∙◌}
 use mathlib.Core.Bool.{true}
-use borrow.Author.Rules.{rules}
 use Rattle.config.specs.Cluster.{lawful_of, least_of}
 use Rattle.config.proofs.Clusters.{least-told, least-refused, why-fault}
 use Rattle.config.specs.declared.answer.Verdict.{Verdict}

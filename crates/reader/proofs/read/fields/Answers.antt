@@ -1,6 +1,5 @@
 -- `fields` meets its contract: it hands on all but the value.
 use mathlib.Core.Path.{ap}
-use borrow.Author.Rules.{rules}
 use Rattle.message.specs.declared.answer.Fields.{Fields}
 use Rattle.message.specs.declared.answer.Received.{Received}
 use Rattle.message.specs.Answers.{fields_answer}

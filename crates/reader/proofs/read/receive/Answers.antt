@@ -1,6 +1,5 @@
 -- `receive` meets its contract: by the verdict, and where the message passed what was taken of it.
 use mathlib.Core.Path.{◌∙◌}
-use borrow.Author.Rules.{rules}
 use Rattle.reader.proofs.Answered.{received-refused, received-passed}
 use Rattle.reader.proofs.read.receive.Goals as goal
 

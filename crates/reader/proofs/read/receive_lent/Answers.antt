@@ -1,7 +1,6 @@
 -- `receive_lent` meets its contract: 1 or 15 for the cluster beside the zeros, then what is taken into them.
 use mathlib.Core.Path.{◌≡◌, refl, sym, ap, ◌∙◌}
 use mathlib.Core.Bool.{true, false}
-use borrow.Author.Rules.{rules}
 use Rattle.config.specs.Cluster.{lawful_of, least_of}
 use Rattle.config.proofs.Clusters.{least-told, least-refused, why-fault}
 use Rattle.ledger.specs.declared.ledger.Ledger.{Ledger}

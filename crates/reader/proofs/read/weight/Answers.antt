@@ -1,7 +1,6 @@
 -- `weight` meets its contract: the verdict, the server, and then the weight from the sums.
 use mathlib.Core.Path.{◌≡◌, sym, ap, ◌∙◌}
 use mathlib.Core.Bool.{true}
-use borrow.Author.Rules.{rules}
 use Rattle.config.specs.Cluster.{lawful_of, server_of}
 use Rattle.config.specs.declared.answer.Signed.{Signed}
 use Rattle.config.proofs.Clusters.{lawful-valid, valid-server}

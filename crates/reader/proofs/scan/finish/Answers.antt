@@ -1,7 +1,6 @@
 -- `finish` meets its contract: the end is tested first, then the weights.
 use mathlib.Core.Path.{sym, ap, ap₂, ◌∙◌}
 use mathlib.Core.Bool.{Bool}
-use borrow.Author.Rules.{rules}
 use Rattle.message.specs.declared.state.Cursor.{Cursor}
 use Rattle.message.specs.Cursors.{require}
 use Rattle.reader.proofs.Steps.{require-stays}

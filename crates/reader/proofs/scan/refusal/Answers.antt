@@ -2,7 +2,6 @@
 use native.Mathlib.Omega.{arith}
 use mathlib.Core.Path.{sym, ◌∙◌}
 use mathlib.Core.Logic.{⊎_elim}
-use borrow.Author.Rules.{rules}
 use Rattle.config.proofs.Refusals.{meaning-told, meaning-none}
 use Rattle.reader.proofs.scan.refusal.Goals as goal
 

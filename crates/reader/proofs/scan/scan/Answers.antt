@@ -1,7 +1,5 @@
 -- `scan` meets its contract: each part in turn, from the cursor of the one before it.
 use mathlib.Core.Path.{ap, ◌∙◌}
-use borrow.Author.Rules.{rules}
-use Rattle.format.specs.Bytes.{bit}
 use Rattle.message.specs.Scans.{head_of}
 use Rattle.reader.proofs.Scanned.{ReadSoFar, received_is, given_is, note-is, part-whole}
 use Rattle.reader.proofs.scan.scan.Goals.{After-weigh_sheet-sheet}

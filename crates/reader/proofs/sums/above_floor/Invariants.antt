@@ -1,17 +1,9 @@
 -- `above_floor` meets its contract: every server before i is above the floor.
-use Prim.Native.Nat.{◌+◌, ◌-◌, ◌≤◌, ◌<◌}
-use native.Mathlib.Omega.{arith}
-use mathlib.Core.Path.{◌≡◌, sym, ◌∙◌}
+use Prim.Native.Nat.{◌-◌, ◌≤◌}
+use mathlib.Core.Path.{◌≡◌}
 use mathlib.Core.Bool.{true}
-use borrow.Author.Rules.{rules}
-use borrow.Author.Tests.{lt-leb, le-leb}
-use lib.Dec.{leb}
-use lib.ListN.{get_or}
 use Rattle.quorums.specs.Sum.{all}
-use Rattle.quorums.proofs.Sums.{all_none, all-next, all-fails}
-use Rattle.config.specs.Cluster.{start_of}
-use Rattle.config.proofs.Clusters.{lawful-valid, lawful-bounds, least-small}
-use Rattle.ledger.proofs.Weights.{above_at, above_at_lem}
+use Rattle.ledger.proofs.Weights.{above_at}
 use Rattle.reader.proofs.sums.above_floor.Given as goal
 
 abbrev pub invariant-loop-i : goal.invariant-loop-i

@@ -3,11 +3,9 @@
 use Prim.Native.Nat.{◌<◌}
 use native.Mathlib.Omega.{arith}
 use mathlib.Core.Path.{sym, ap, ◌∙◌}
-use borrow.Author.Rules.{rules}
 use lib.ListN.{length}
-use Rattle.message.specs.Scans.{cell_read}
-use Rattle.ledger.proofs.Tallies.{Tallied, tally-none, tally-next, tally-zeros, zeros-at}
-use Rattle.reader.proofs.Turns.{CellsSoFar, cells-start, cells-inside, cell-is, cells-turn, cells-clean, cells-stop, cells-none, cells-done}
+use Rattle.ledger.proofs.Tallies.{tally-none, tally-next, tally-zeros, zeros-at}
+use Rattle.reader.proofs.Turns.{cells-start, cells-inside, cell-is, cells-turn, cells-clean, cells-stop, cells-none, cells-done}
 use Rattle.reader.proofs.take.take_cells.Goals.{In-loop-rest}
 use Rattle.reader.proofs.take.take_cells.Goals as goal
 

@@ -3,11 +3,10 @@
 use Prim.Native.Nat.{ℕ, ◌+◌, ◌-◌, ◌*◌, ◌<◌}
 use native.Mathlib.Omega.{arith}
 use mathlib.Core.Path.{sym, ap, ◌∙◌}
-use borrow.Author.Rules.{rules}
 use lib.ListN.{length, length-set, length-replicate}
 use Rattle.quorums.proofs.Tables.{table-length}
 use Rattle.reader.proofs.Rows.{row-blank}
-use Rattle.reader.proofs.Turns.{RowsSoFar, rows_start, rows_inside, rows-small, rows-turn, rows-clean, rows-stop, rows_none, rows-done, RowsTaken, taken_start, taken-turn, taken-all}
+use Rattle.reader.proofs.Turns.{rows_start, rows_inside, rows-small, rows-turn, rows-clean, rows-stop, rows_none, rows-done, taken_start, taken-turn, taken-all}
 use Rattle.reader.proofs.take.take_rows.Goals.{In-loop-rest}
 use Rattle.reader.proofs.take.take_rows.Goals as goal
 

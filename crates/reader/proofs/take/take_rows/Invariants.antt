@@ -1,13 +1,6 @@
 -- `take_rows` meets its contract: after i rows the cursor, the sums, the counts and the cells are those of the first i, the later ones still 0, and where
 -- nothing is left of the map or there is a fault no later row has anything.
-use Prim.Native.Nat.{ℕ, ◌+◌, ◌-◌, ◌*◌, ◌<◌}
-use native.Mathlib.Omega.{arith}
-use mathlib.Core.Path.{sym, ap, ◌∙◌}
-use borrow.Author.Rules.{rules}
-use lib.ListN.{length, length-set, length-replicate}
-use Rattle.quorums.proofs.Tables.{table-length}
-use Rattle.reader.proofs.Rows.{row-blank}
-use Rattle.reader.proofs.Turns.{RowsSoFar, rows_start, rows_inside, rows-small, rows-turn, rows-clean, rows-stop, rows_none, rows-done, RowsTaken, taken_start, taken-turn, taken-all}
+use Rattle.reader.proofs.Turns.{RowsSoFar, RowsTaken}
 use Rattle.reader.proofs.take.take_rows.Given as goal
 
 abbrev pub invariant-loop-rest : goal.invariant-loop-rest

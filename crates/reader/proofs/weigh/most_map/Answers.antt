@@ -1,6 +1,5 @@
 -- `most_map` meets its contract: 2 ^ n is at most 2 ^ 16.
 use native.Mathlib.Omega.{arith}
-use borrow.Author.Rules.{rules}
 use lib.Pow.{pow_pos, pow_mono}
 use Rattle.config.proofs.Clusters.{lawful-bounds}
 use Rattle.reader.proofs.weigh.most_map.Goals as goal

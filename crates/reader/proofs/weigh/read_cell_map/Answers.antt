@@ -1,7 +1,6 @@
 -- `read_cell_map` meets its contract: the number, then the test of the giver's own bit.
 use native.Mathlib.Omega.{arith}
 use mathlib.Core.Path.{◌≡◌}
-use borrow.Author.Rules.{rules}
 use lib.Dec.{eqb}
 use Rattle.message.specs.Cursors.{require}
 use Rattle.message.specs.Scans.{cell_map_of}

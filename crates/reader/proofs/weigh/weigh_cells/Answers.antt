@@ -2,8 +2,7 @@
 -- others read nothing.
 use Prim.Native.Nat.{◌<◌}
 use native.Mathlib.Omega.{arith}
-use borrow.Author.Rules.{rules}
-use Rattle.reader.proofs.Turns.{CellsSoFar, cells-start, cells-inside, cells-turn, cells-stop, cells-done}
+use Rattle.reader.proofs.Turns.{cells-start, cells-inside, cells-turn, cells-stop, cells-done}
 use Rattle.reader.proofs.weigh.weigh_cells.Goals.{In-loop-rest}
 use Rattle.reader.proofs.weigh.weigh_cells.Goals as goal
 

@@ -1,5 +1,4 @@
 -- `weigh_row` meets its contract: a row that doesn't stand adds nothing, and one that stands is read part by part.
-use borrow.Author.Rules.{rules}
 use Rattle.reader.proofs.Turns.{row-none, row_read}
 use Rattle.reader.proofs.weigh.weigh_row.Goals as goal
 

@@ -3,9 +3,8 @@
 use Prim.Native.Nat.{◌<◌}
 use native.Mathlib.Omega.{arith}
 use mathlib.Core.Path.{sym, ap, ◌∙◌}
-use borrow.Author.Rules.{rules}
 use lib.ListN.{length, length-set}
-use Rattle.reader.proofs.Turns.{RowsSoFar, rows_start, rows_inside, rows-small, rows-turn, rows-stop, rows-done}
+use Rattle.reader.proofs.Turns.{rows_start, rows_inside, rows-small, rows-turn, rows-stop, rows-done}
 use Rattle.reader.proofs.weigh.weigh_rows.Goals.{In-loop-rest}
 use Rattle.reader.proofs.weigh.weigh_rows.Goals as goal
 

@@ -1,11 +1,6 @@
 -- `weigh_rows` meets its contract: after i rows the cursor and the sums are those of the first i, and where nothing is left of the map the others add
 -- nothing.
-use Prim.Native.Nat.{◌<◌}
-use native.Mathlib.Omega.{arith}
-use mathlib.Core.Path.{sym, ap, ◌∙◌}
-use borrow.Author.Rules.{rules}
-use lib.ListN.{length, length-set}
-use Rattle.reader.proofs.Turns.{RowsSoFar, rows_start, rows_inside, rows-small, rows-turn, rows-stop, rows-done}
+use Rattle.reader.proofs.Turns.{RowsSoFar}
 use Rattle.reader.proofs.weigh.weigh_rows.Given as goal
 
 abbrev pub invariant-loop-rest : goal.invariant-loop-rest

@@ -1,5 +1,4 @@
 -- `weigh_sheet` meets its contract: the row map, then the rows.
-use borrow.Author.Rules.{rules}
 use Rattle.message.specs.Scans.{sheet_of}
 use Rattle.reader.proofs.weigh.weigh_sheet.Goals as goal
 

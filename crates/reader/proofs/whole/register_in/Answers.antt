@@ -1,5 +1,4 @@
 -- `register_in` meets its contract.
-use borrow.Author.Rules.{rules}
 use Rattle.reader.proofs.whole.register_in.Goals as goal
 
 pub returns : goal.returns

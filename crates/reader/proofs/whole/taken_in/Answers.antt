@@ -2,7 +2,6 @@
 -- passes lies within it.
 use native.Mathlib.Omega.{arith}
 use mathlib.Core.Path.{◌≡◌, sym, ◌∙◌}
-use borrow.Author.Rules.{rules}
 use Rattle.format.specs.Bytes.{bit}
 use Rattle.message.specs.Cursors.{read_number}
 use Rattle.message.specs.Scans.{scan_of}

@@ -1,5 +1,4 @@
 -- `untaken` meets its contract: it makes what is said beside a refusal.
-use borrow.Author.Rules.{rules}
 use Rattle.reader.proofs.whole.untaken.Goals as goal
 
 pub returns : goal.returns

@@ -1,7 +1,5 @@
 -- `fits_in` meets its contract: the cluster and the number, then what the server holds.
 use mathlib.Core.Path.{sym, ◌∙◌}
-use borrow.Author.Rules.{rules}
-use borrow.Author.Tests.{not-true, not-false}
 use Rattle.server.specs.Servers.{fits}
 use Rattle.server.proofs.record.fits_in.Goals as goal
 

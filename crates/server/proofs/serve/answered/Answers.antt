@@ -1,6 +1,5 @@
 -- `answered` meets its contract: a share by the test of the replica, a request by what the writer sends.
 use mathlib.Core.Path.{refl}
-use borrow.Author.Rules.{rules}
 use borrow.Author.Tests.{eq-eqb, ne_eqb}
 use Rattle.config.proofs.Clusters.{server-small}
 use Rattle.server.specs.Servings.{answer_in}

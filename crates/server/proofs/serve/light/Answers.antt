@@ -1,6 +1,5 @@
 -- `light` meets its contract, by the refusal's number.
 use mathlib.Core.Path.{sym, ◌∙◌}
-use borrow.Author.Rules.{rules}
 use borrow.Author.Tests.{eq-eqb, ne_eqb}
 use Rattle.server.specs.Servings.{light_of}
 use Rattle.server.proofs.serve.light.Goals as goal

@@ -1,8 +1,6 @@
 -- `serve_known` meets its contract: the register held is tested, and what is answered tells the rest.
 use mathlib.Core.Path.{◌≡◌, sym, ap, ◌∙◌}
 use mathlib.Core.Bool.{true}
-use borrow.Author.Rules.{rules}
-use borrow.Author.Tests.{not-true, not-false}
 use Rattle.replica.specs.Registers.{register_fits}
 use Rattle.server.specs.declared.record.Server.{Server}
 use Rattle.server.specs.Parts.{server_of as server_in}

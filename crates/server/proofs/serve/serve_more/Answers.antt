@@ -1,8 +1,6 @@
 -- `serve_more` meets its contract: what is held is tested, and what is answered by both together tells the rest; only then do they take its place.
 use mathlib.Core.Path.{◌≡◌, sym, ap, ap₂, ◌∙◌}
 use mathlib.Core.Bool.{true}
-use borrow.Author.Rules.{rules}
-use borrow.Author.Tests.{not-true, not-false}
 use Rattle.replica.specs.Parts.{replica_of}
 use Rattle.replica.specs.declared.replica.Replica.{Replica}
 use Rattle.replica.specs.Replicas.{fits}

@@ -1,6 +1,5 @@
 -- `stray` meets its contract: the kind first, then the server.
 use mathlib.Core.Path.{refl}
-use borrow.Author.Rules.{rules}
 use borrow.Author.Tests.{eq-eqb, ne_eqb}
 use Rattle.server.proofs.serve.stray.Goals as goal
 

@@ -2,8 +2,6 @@
 use native.Mathlib.Omega.{arith}
 use mathlib.Core.Path.{◌≡◌, refl, sym, ap, ◌∙◌}
 use mathlib.Core.Bool.{true}
-use borrow.Author.Rules.{rules}
-use borrow.Author.Tests.{not-true, not-false}
 use Rattle.config.specs.Cluster.{server_of}
 use Rattle.config.proofs.Clusters.{server-small}
 use Rattle.message.specs.Answers.{Written}

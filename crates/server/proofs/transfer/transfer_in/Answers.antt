@@ -1,7 +1,5 @@
 -- `transfer_in` meets its contract: the register's test, and `add` on the ledger.
 use mathlib.Core.Path.{refl, sym, ◌∙◌}
-use borrow.Author.Rules.{rules}
-use borrow.Author.Tests.{not-true, not-false}
 use Rattle.server.specs.declared.record.Server.{Server}
 use Rattle.server.specs.Parts.{server_of}
 use Rattle.server.proofs.Transfers.{transfer-adds}

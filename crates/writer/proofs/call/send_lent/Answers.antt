@@ -1,7 +1,6 @@
 -- `send_lent` meets its contract: what is sent is what the reader takes.
 use mathlib.Core.Path.{◌≡◌, refl, sym, ◌∙◌}
 use borrow.Author.Rules.{rules}
-use borrow.Author.Tests.{not-true, not-false}
 use Rattle.quorums.proofs.Tests.{both}
 use Rattle.replica.specs.Parts.{replica_of}
 use Rattle.message.specs.Faults.{lawful, fault_of, send_of}

@@ -1,6 +1,5 @@
 -- `write_judged` meets its contract: the verdict on the envelope and the replica is the reader's on their bytes.
 use mathlib.Core.Path.{◌≡◌, sym, ap, ◌∙◌}
-use borrow.Author.Rules.{rules}
 use Rattle.replica.specs.declared.replica.Replica.{Replica}
 use Rattle.replica.specs.Parts.{replica_of}
 use Rattle.replica.proofs.Ranges.{register-is-typed}

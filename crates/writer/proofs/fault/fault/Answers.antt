@@ -1,8 +1,7 @@
 -- `fault` meets its contract, test by test.
 use mathlib.Core.Path.{◌≡◌, refl, sym, ap, ◌∙◌}
 use mathlib.Core.Bool.{Bool, true, false, cond}
-use borrow.Author.Rules.{rules}
-use borrow.Author.Tests.{not-true, not-false, lt-ltb, le-ltb, le-leb, lt-leb}
+use borrow.Author.Tests.{lt-ltb, le-ltb, le-leb, lt-leb}
 use Rattle.config.specs.Cluster.{lawful_of}
 use Rattle.config.proofs.Clusters.{not-lawful, fault-first, fault-second}
 use lib.Dec.{eqb}

@@ -1,8 +1,7 @@
 -- `lawful` meets its contract, test by test.
 use mathlib.Core.Path.{◌≡◌, refl, sym, ◌∙◌}
 use mathlib.Core.Bool.{true}
-use borrow.Author.Rules.{rules}
-use borrow.Author.Tests.{not-true, not-false, le-leb, lt-leb}
+use borrow.Author.Tests.{le-leb, lt-leb}
 use Rattle.message.specs.Cursors.{within}
 use Rattle.message.specs.Faults.{lawful}
 use Rattle.writer.proofs.fault.lawful.Goals.{Else-envelope-gt3}

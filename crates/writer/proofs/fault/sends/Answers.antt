@@ -1,7 +1,5 @@
 -- `sends` meets its contract: the envelope is tested first, then the replica.
 use mathlib.Core.Path.{refl, sym, ◌∙◌}
-use borrow.Author.Rules.{rules}
-use borrow.Author.Tests.{not-true, not-false}
 use Rattle.writer.proofs.fault.sends.Goals as goal
 
 pub returns-then-not-lawful : goal.returns-then-not-lawful

@@ -2,7 +2,6 @@
 use native.Mathlib.Omega.{arith}
 use mathlib.Core.Path.{◌≡◌, sym}
 use mathlib.Core.List.{[]}
-use borrow.Author.Rules.{rules}
 use Rattle.format.specs.Bytes.{number}
 use Rattle.format.proofs.Marks.{stands-none, stands-pos}
 use Rattle.writer.proofs.Places.{onto-nothing}

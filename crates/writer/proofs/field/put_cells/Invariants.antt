@@ -1,14 +1,11 @@
 -- `put_cells` meets its contract: after j turns the first j cells are written, and in the map.
 use Prim.Native.Nat.{ℕ, ◌-◌}
-use native.Mathlib.Omega.{arith}
-use mathlib.Core.Path.{◌≡◌, refl}
+use mathlib.Core.Path.{◌≡◌}
 use mathlib.Core.List.{List}
-use borrow.Author.Rules.{rules}
 use lib.ListN.{length, get_or}
 use Rattle.format.specs.Bytes.{number}
-use Rattle.format.specs.Table.{cell_map, cells}
-use Rattle.writer.proofs.Places.{Written, written_none, written-length, written-room, written_next, written_all}
-use Rattle.writer.proofs.Outlines.{Marked, marked_start, marked_next, marked-small, marked_all}
+use Rattle.writer.proofs.Places.{Written}
+use Rattle.writer.proofs.Outlines.{Marked}
 use Rattle.writer.proofs.field.put_cells.Given as goal
 
 -- the bytes of cell j

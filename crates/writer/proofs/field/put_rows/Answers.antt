@@ -1,12 +1,11 @@
 -- `put_rows` meets its contract: after i turns the first i rows are written, and those from n on have no bytes.
-use Prim.Native.Nat.{ℕ, ◌+◌, ◌*◌, ◌-◌, ◌≤◌, ◌<◌}
+use Prim.Native.Nat.{ℕ, ◌≤◌, ◌<◌}
 use native.Mathlib.Omega.{arith}
 use mathlib.Core.Path.{◌≡◌, refl, ◌∙◌}
-use mathlib.Core.List.{List, []}
-use borrow.Author.Rules.{rules}
+use mathlib.Core.List.{[]}
 use lib.ListN.{get_or}
 use Rattle.format.specs.Table.{row, rows}
-use Rattle.writer.proofs.Places.{Written, written_none, written-length, written-room, written_next, written-rest, written_all}
+use Rattle.writer.proofs.Places.{written_none, written-length, written-room, written_next, written-rest, written_all}
 use Rattle.ledger.proofs.Rows.{part, part_length}
 use Rattle.writer.proofs.Rows.{part-total, part-row, row-absent}
 use Rattle.writer.proofs.field.put_rows.Goals.{In-loop-i, Start}

@@ -1,14 +1,9 @@
 -- `put_rows` meets its contract: after i turns the first i rows are written, and those from n on have no bytes.
-use Prim.Native.Nat.{ℕ, ◌+◌, ◌*◌, ◌-◌, ◌≤◌, ◌<◌}
-use native.Mathlib.Omega.{arith}
-use mathlib.Core.Path.{◌≡◌, refl, ◌∙◌}
-use mathlib.Core.List.{List, []}
-use borrow.Author.Rules.{rules}
+use Prim.Native.Nat.{ℕ, ◌+◌, ◌*◌, ◌-◌, ◌≤◌}
+use mathlib.Core.List.{List}
 use lib.ListN.{get_or}
-use Rattle.format.specs.Table.{row, rows}
-use Rattle.writer.proofs.Places.{Written, written_none, written-length, written-room, written_next, written-rest, written_all}
-use Rattle.ledger.proofs.Rows.{part, part_length}
-use Rattle.writer.proofs.Rows.{part-total, part-row, row-absent}
+use Rattle.format.specs.Table.{row}
+use Rattle.writer.proofs.Places.{Written}
 use Rattle.writer.proofs.field.put_rows.Given as goal
 
 -- the bytes of row i

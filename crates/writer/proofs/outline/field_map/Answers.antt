@@ -1,5 +1,4 @@
 -- `field_map` meets its contract: the map is the sum of its bits.
-use borrow.Author.Rules.{rules}
 use Rattle.format.specs.Table.{register_mark}
 use Rattle.writer.proofs.Outlines.{map-sum}
 use Rattle.writer.proofs.outline.field_map.Goals as goal

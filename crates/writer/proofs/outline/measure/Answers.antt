@@ -2,7 +2,6 @@
 use Prim.Native.Nat.{◌+◌, ◌*◌, ◌≤◌}
 use native.Mathlib.Omega.{arith}
 use mathlib.Core.Path.{◌≡◌}
-use borrow.Author.Rules.{rules}
 use Rattle.config.specs.Cluster.{stamp_bytes}
 use Rattle.format.specs.Table.{register_mark}
 use Rattle.writer.specs.Outlines.{size_of}

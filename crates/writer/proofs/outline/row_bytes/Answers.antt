@@ -1,12 +1,9 @@
 -- `row_bytes` meets its contract: count and cell map take 4 bytes, and each cell that stands 4 more.
-use Prim.Native.Nat.{◌+◌, ◌*◌, ◌-◌, ◌≤◌}
 use native.Mathlib.Omega.{arith}
 use mathlib.Core.Path.{◌≡◌, refl, sym, ap, ◌∙◌}
-use borrow.Author.Rules.{rules}
-use lib.ListN.{length, get_or}
+use lib.ListN.{length}
 use Rattle.quorums.specs.Sum.{sum}
 use Rattle.quorums.proofs.Sums.{sum-next}
-use Rattle.format.specs.Bytes.{stands}
 use Rattle.writer.proofs.Rows.{row-absent, present-size}
 use Rattle.writer.proofs.outline.row_bytes.Goals as goal
 

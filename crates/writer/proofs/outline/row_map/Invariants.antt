@@ -1,10 +1,8 @@
 -- `row_map` meets its contract: after i turns it has the marks of the first i counts.
 use Prim.Native.Nat.{◌-◌}
-use native.Mathlib.Omega.{arith}
 use mathlib.Core.Path.{◌≡◌}
-use borrow.Author.Rules.{rules}
 use lib.ListN.{length, get_or}
-use Rattle.writer.proofs.Outlines.{Marked, marked_start, marked_next, marked-small, marked_all}
+use Rattle.writer.proofs.Outlines.{Marked}
 use Rattle.writer.proofs.outline.row_map.Given as goal
 
 abbrev pub invariant-loop-i : goal.invariant-loop-i

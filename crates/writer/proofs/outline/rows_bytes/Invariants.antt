@@ -1,13 +1,9 @@
 -- `rows_bytes` meets its contract: after i turns it has the bytes of the first i rows.
 use Prim.Native.Nat.{◌+◌, ◌*◌, ◌-◌, ◌≤◌}
-use native.Mathlib.Omega.{arith}
-use mathlib.Core.Path.{◌≡◌, refl, ap, ◌∙◌}
-use borrow.Author.Rules.{rules}
+use mathlib.Core.Path.{◌≡◌}
 use lib.ListN.{length, get_or}
 use Rattle.format.specs.Bytes.{series}
-use Rattle.format.specs.Table.{row, rows}
-use Rattle.ledger.proofs.Rows.{part_length}
-use Rattle.writer.proofs.Rows.{part-total, part-row, bytes_next}
+use Rattle.format.specs.Table.{row}
 use Rattle.writer.proofs.outline.rows_bytes.Given as goal
 
 abbrev pub invariant-loop-i : goal.invariant-loop-i

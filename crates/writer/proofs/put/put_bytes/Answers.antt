@@ -1,11 +1,7 @@
 -- `put_bytes` meets its contract: what is still to be written onto the buffer as it is makes the wanted buffer.
-use Prim.Native.Nat.{◌+◌, ◌≤◌}
-use mathlib.Core.Path.{◌≡◌, sym, ◌∙◌}
+use mathlib.Core.Path.{sym, ◌∙◌}
 use native.Mathlib.Omega.{arith}
-use lib.ListN.{length, length-set}
-use Rattle.format.specs.Bytes.{bytes}
-use borrow.Author.Rules.{rules}
-use Rattle.writer.specs.Places.{onto}
+use lib.ListN.{length-set}
 use Rattle.writer.proofs.Puts.{number-down, number-done}
 use Rattle.writer.proofs.put.put_bytes.Goals as goal
 

@@ -8,7 +8,6 @@ use Rattle.format.specs.Bytes.{bytes, number}
 use Rattle.format.proofs.Lengths.{bytes-length}
 use Rattle.writer.proofs.Places.{onto-nothing}
 use Rattle.writer.proofs.Puts.{number-absent, number-present, present-length}
-use borrow.Author.Rules.{rules}
 use Rattle.writer.proofs.put.put_number.Goals.{Else-stands-eq0}
 use Rattle.writer.proofs.put.put_number.Goals as goal
 

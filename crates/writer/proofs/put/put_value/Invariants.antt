@@ -1,13 +1,8 @@
 -- `put_value` meets its contract: the first k bytes are in the buffer.
 use Prim.Native.Nat.{◌+◌, ◌-◌, ◌≤◌}
-use mathlib.Core.Path.{◌≡◌, sym}
-use native.Mathlib.Omega.{arith}
-use lib.ListN.{length, take, length-set}
-use lib.Seq.{length-take-le}
-use borrow.Author.Rules.{rules}
+use mathlib.Core.Path.{◌≡◌}
+use lib.ListN.{length, take}
 use Rattle.writer.specs.Places.{onto}
-use Rattle.writer.proofs.Places.{onto-nothing}
-use Rattle.writer.proofs.Puts.{value-up}
 use Rattle.writer.proofs.put.put_value.Given as goal
 
 abbrev pub invariant-loop-k : goal.invariant-loop-k

@@ -3,11 +3,9 @@ use Prim.Native.Nat.{ℕ, ◌+◌, ◌*◌}
 use native.Mathlib.Omega.{arith}
 use mathlib.Core.Path.{◌≡◌, refl, ap, ◌∙◌}
 use mathlib.Core.List.{List, [], ◌∷◌}
-use borrow.Author.Rules.{rules}
 use lib.ListN.{length, get_or}
 use Rattle.format.specs.Bytes.{number, series}
 use Rattle.format.specs.Table.{head, register, rows}
-use Rattle.replica.specs.declared.replica.Replica.{Replica}
 use Rattle.replica.specs.Values.{bytes_of}
 use Rattle.replica.specs.Parts.{replica_of}
 use Rattle.message.specs.Envelopes.{message_of}

@@ -1,6 +1,5 @@
 -- `begun` meets its contract: the chosen register is the start.
 use mathlib.Core.Path.{ap}
-use borrow.Author.Rules.{rules}
 use Rattle.replica.specs.declared.register.Register.{Register}
 use Rattle.desk.specs.declared.operation.Operation.{Operation}
 use Rattle.desk.proofs.operation.Operation.begun.Goals.{Start}

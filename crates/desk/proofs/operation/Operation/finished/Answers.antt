@@ -1,6 +1,5 @@
 -- `finished` meets its contract: the value is empty.
 use mathlib.Core.Path.{ap}
-use borrow.Author.Rules.{rules}
 use Rattle.replica.specs.declared.value.Value.{Value}
 use Rattle.desk.specs.declared.operation.Operation.{Operation}
 use Rattle.desk.proofs.operation.Operation.finished.Goals as goal

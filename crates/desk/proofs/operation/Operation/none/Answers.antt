@@ -1,6 +1,5 @@
 -- `none` meets its contract: every field is 0.
 use mathlib.Core.Path.{ap₂}
-use borrow.Author.Rules.{rules}
 use Rattle.replica.specs.declared.register.Register.{Register}
 use Rattle.replica.specs.declared.value.Value.{Value}
 use Rattle.desk.specs.declared.operation.Operation.{Operation}

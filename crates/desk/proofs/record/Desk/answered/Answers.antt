@@ -2,7 +2,6 @@
 use mathlib.Core.Path.{ap}
 use Rattle.desk.specs.declared.record.Desk.{Desk}
 use Rattle.desk.specs.declared.record.DeskAnswer.{DeskAnswer}
-use borrow.Author.Rules.{rules}
 use Rattle.desk.proofs.record.Desk.answered.Goals as goal
 
 pub returns : goal.returns

@@ -1,6 +1,5 @@
 -- `begin_write` meets its contract: nothing but the round and the operation changes.
 use mathlib.Core.Path.{ap, ◌∙◌}
-use borrow.Author.Rules.{rules}
 use Rattle.desk.specs.Begins.{answer_of}
 use Rattle.desk.proofs.Begins.{begin-whole}
 use Rattle.desk.proofs.record.Desk.begin_write.Goals as goal

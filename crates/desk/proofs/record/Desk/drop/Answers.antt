@@ -2,7 +2,6 @@
 use mathlib.Core.Path.{ap, ◌∙◌}
 use Rattle.desk.specs.Begins.{answer_of}
 use Rattle.desk.proofs.Begins.{drop-whole}
-use borrow.Author.Rules.{rules}
 use Rattle.desk.proofs.record.Desk.drop.Goals as goal
 
 pub returns : goal.returns

@@ -1,6 +1,5 @@
 -- `fresh` meets its contract: the replica is fresh, and there is no operation.
 use mathlib.Core.Path.{ap₂}
-use borrow.Author.Rules.{rules}
 use Rattle.replica.specs.declared.replica.Replica.{Replica}
 use Rattle.desk.specs.declared.operation.Operation.{Operation}
 use Rattle.desk.specs.declared.record.Desk.{Desk}

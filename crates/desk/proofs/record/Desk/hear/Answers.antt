@@ -1,6 +1,5 @@
 -- `hear` meets its contract: the parts that hear hands back, with the rest of the record, are the record that it leaves.
 use mathlib.Core.Path.{◌∙◌}
-use borrow.Author.Rules.{rules}
 use Rattle.desk.proofs.Answers.{answers-whole}
 use Rattle.desk.proofs.record.Desk.hear.Goals as goal
 

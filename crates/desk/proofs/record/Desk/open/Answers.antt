@@ -1,11 +1,8 @@
 -- `open` meets its contract: a fresh record, or a blank one beside the refusal.
 use mathlib.Core.Path.{◌≡◌, sym, ap, ◌∙◌}
-use borrow.Author.Tests.{not-true, not-false}
 use Rattle.config.specs.Refusals.{refusal}
 use Rattle.config.specs.Cluster.{house_of, config_of, lawful_of}
-use Rattle.config.specs.declared.cluster.Config.{Config}
 use Rattle.desk.specs.Desks.{opens, open_of, accepted, refused, fresh_desk}
-use borrow.Author.Rules.{rules}
 use Rattle.desk.proofs.record.Desk.open.Goals.{After-lawful, After-opens}
 use Rattle.desk.proofs.record.Desk.open.Goals as goal
 

@@ -1,6 +1,5 @@
 -- `blank` meets its contract.
 use mathlib.Core.Path.{ap₂}
-use borrow.Author.Rules.{rules}
 use Rattle.server.proofs.record.Server.blank.Goals as goal
 
 pub returns : goal.returns

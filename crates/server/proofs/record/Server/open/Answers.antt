@@ -1,9 +1,6 @@
 -- `open` meets its contract: a fresh record, or a blank one beside the refusal.
 use mathlib.Core.Path.{◌≡◌, sym, ap, ap₂, ◌∙◌}
-use borrow.Author.Rules.{rules}
-use borrow.Author.Tests.{not-true, not-false}
 use Rattle.config.specs.Cluster.{house_of, config_of, server_of, lawful_of}
-use Rattle.config.specs.declared.cluster.Config.{Config}
 use Rattle.config.specs.Refusals.{refusal}
 use Rattle.server.specs.Servers.{open_of, accepted, refused}
 use Rattle.server.proofs.record.Server.open.Goals.{After-has, After-lawful}

@@ -1,6 +1,5 @@
 -- `serve` meets its contract: the record is put together of the parts that `serve_in` leaves.
 use mathlib.Core.Path.{ap, ◌∙◌}
-use borrow.Author.Rules.{rules}
 use Rattle.server.specs.declared.serve.ServedIn.{ServedIn}
 use Rattle.server.proofs.Servings.{served-whole}
 use Rattle.server.proofs.record.Server.serve.Goals as goal

@@ -1,5 +1,4 @@
 -- `transfer` meets its contract: nothing but the ledger changes.
-use borrow.Author.Rules.{rules}
 use Rattle.server.proofs.Transfers.{transfer-ledger}
 use Rattle.server.proofs.record.Server.transfer.Goals as goal
 
