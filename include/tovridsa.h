@@ -1,6 +1,6 @@
 /*
  * Tovridsa for a host in C11 or C++11: servers and desks of a replicated store of seat maps, and questions about its messages. Link
- * target/staticlib/libhost.a, which `rt staticlib host` writes.
+ * target/staticlib/libhost.a, which `tools/build host` writes.
  *
  * The store does no input or output and has no clock. A host keeps a record for each server and each desk, calls the functions below, and carries the
  * messages that they write from party to party, in whatever way and order it likes: messages may be lost, doubled, delayed and reordered.

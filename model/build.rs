@@ -18,7 +18,7 @@ fn main() {
     println!("cargo:rerun-if-changed={}", archive.display());
     if !archive.is_file() {
         eprintln!(
-            "{} is missing: run `rt staticlib host` first,",
+            "{} is missing: run `tools/build host` first,",
             archive.display()
         );
         eprintln!("or name the directory that holds libhost.a in TOVRIDSA_LIB");

@@ -137,7 +137,7 @@ fn compilers() -> String {
             format!("`rt version`: {said}")
         });
     format!(
-        "core by `rt staticlib` ({core}); model by {} (`opt-level={}`); C by {} (`{}`)",
+        "core by `tools/build host` ({core}); model by {} (`opt-level={}`); C by {} (`{}`)",
         env!("BENCH_RUSTC"),
         env!("BENCH_OPT_LEVEL"),
         env!("BENCH_CC"),

@@ -25,7 +25,7 @@
 //! their own.
 //!
 //! To run the comparisons: `cd model && cargo test --release`, after
-//! `rt staticlib host` and `rt check cases`.
+//! `tools/build`.
 
 pub mod answers;
 pub mod format;

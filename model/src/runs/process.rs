@@ -19,7 +19,7 @@ use crate::machine::sheet::Handed;
 /// How long an answer is waited for in a conversation.
 const PATIENCE: Duration = Duration::from_secs(20);
 
-/// Where the program lies: TOVRIDSA_CASES, or where `rt check cases` puts it.
+/// Where the program lies: TOVRIDSA_CASES, or where `tools/build cases` puts it.
 pub fn program() -> PathBuf {
     let path = match env::var_os("TOVRIDSA_CASES") {
         Some(path) => path.into(),
@@ -27,7 +27,7 @@ pub fn program() -> PathBuf {
     };
     assert!(
         path.is_file(),
-        "{} is missing: `rt check cases` makes it, or name it in TOVRIDSA_CASES",
+        "{} is missing: `tools/build cases` makes it, or name it in TOVRIDSA_CASES",
         path.display()
     );
     path
