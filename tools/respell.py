@@ -1,7 +1,7 @@
 #!/usr/bin/env python3
 """Brings this repository's own definitions and lemmas to the spelling of today's Rattle: words in snake case, types and modules in camel case.
 
-usage: python3 tools/respell.py [COMMIT]     at the top of the repository, once, after /opt/rattle/port/port.py
+usage: python3 tools/respell.py [COMMIT]     at the top of the repository, once, after port.py of the kit
 
 The names are those that the files of specs/ and proofs/ declare, or bring in under another name, in COMMIT (by default HEAD, as it was before port.py ran): a name that begins with a small letter and has a
 capital (or ℤ, ℕ) inside it becomes snake case, in every part between dashes. Types, facts and modules keep their capitals, dashes stay where they join names, and names of
