@@ -1,97 +1,83 @@
 // The calls of a desk, each with its answer.
-use super::buffer::{lent, marked, written};
-use super::print::{item, refusal, signed, verdict, word};
-use super::record::{print_desk, print_value};
-use config::{Signed, Verdict};
+use super::buffer::answer_written;
+use super::print::{Answer, Hex};
+use super::record::{DeskRecord, kind_of};
 use desk::{Desk, DeskAnswer, Hearing, Told};
 use script::DeskCall;
-use std::io::{self, Stdout};
+use std::{fmt, io};
 
-// Makes a call, answers it, and hands back the record that the call left.
+// Makes a call and answers it.
 pub(crate) fn call_desk(
-    out: &Stdout,
-    desk: Desk,
+    out: &impl Print,
+    desk: &mut Desk,
     call: DeskCall,
     bytes: &[u8],
-) -> io::Result<Desk> {
+) -> io::Result<()> {
     match call {
-        DeskCall::BeginRead(note) => changed(out, desk.begin_read(note)),
-        DeskCall::BeginWrite(note) => changed(out, desk.begin_write(note, bytes)),
+        DeskCall::BeginRead(note) => {
+            let answer = desk.begin_read(note);
+            out.print(kept(desk, answer))
+        }
+        DeskCall::BeginWrite(note) => {
+            let answer = desk.begin_write(note, bytes);
+            out.print(kept(desk, answer))
+        }
         DeskCall::Ask(server, at, len) => {
-            ask(out, desk, server, at as usize, len)?;
-            Ok(desk)
+            answer_written(out, at, len, |space, at| desk.ask(server, space, at))
         }
-        DeskCall::Hear => hear(out, desk, bytes),
-        DeskCall::Result => {
-            result(out, desk.result())?;
-            Ok(desk)
+        DeskCall::Hear => {
+            let heard = desk.hear(bytes);
+            *desk = heard.desk;
+            out.print(Answer(heard.hearing.map(word_of)))
         }
-        DeskCall::Margin => {
-            margin(out, desk.margin())?;
-            Ok(desk)
+        DeskCall::Result => out.print(Answer(desk.result().map(Outcome))),
+        DeskCall::Margin => out.print(Answer(desk.margin().map(Margin))),
+        DeskCall::Drop => {
+            let answer = desk.drop();
+            out.print(kept(desk, answer))
         }
-        DeskCall::Drop => changed(out, desk.drop()),
-        DeskCall::Record => {
-            print_desk(out, desk)?;
-            Ok(desk)
-        }
+        DeskCall::Record => out.print(DeskRecord(desk)),
     }
 }
 
-fn changed(out: &Stdout, answer: DeskAnswer) -> io::Result<Desk> {
-    let told = answer.verdict;
-    let desk = answer.desk;
-    verdict(out, told)?;
-    Ok(desk)
+// Keeps the record that a call left.
+fn kept(desk: &mut Desk, answer: DeskAnswer) -> Answer<&'static str> {
+    *desk = answer.desk;
+    Answer::done(answer.verdict)
 }
 
-fn ask(out: &Stdout, desk: Desk, server: u64, at: usize, len: u64) -> io::Result<()> {
-    let mut space = marked();
-    let end = lent(len);
-    let answer = desk.ask(server, &mut space[..end], at);
-    written(out, answer, at, &space)
-}
-
-fn hear(out: &Stdout, desk: Desk, msg: &[u8]) -> io::Result<Desk> {
-    let heard = desk.hear(msg);
-    let hearing = heard.hearing;
-    let after = heard.desk;
+fn word_of(hearing: Hearing) -> &'static str {
     match hearing {
-        Hearing::Accepted => word(out, b"ok")?,
-        Hearing::Late => word(out, b"late")?,
-        Hearing::Refused(r) => refusal(out, r)?,
+        Hearing::Taken => "ok",
+        Hearing::Late => "late",
     }
-    Ok(after)
 }
 
-// The kind, the tag, the restarts and the value.
-fn result(out: &Stdout, told: Told) -> io::Result<()> {
-    let answer = told.verdict;
-    if let Verdict::Refused(r) = answer {
-        refusal(out, r)?;
-        return Ok(());
+// The kind, the tag, the restarts and the value of an operation that has ended.
+#[derive(Clone, Copy)]
+struct Outcome(Told);
+
+impl fmt::Display for Outcome {
+    fn fmt<W: fmt::Write>(&self, f: &mut fmt::Formatter<W>) -> fmt::Result {
+        let told = &self.0;
+        let register = &told.register;
+        write!(
+            f,
+            "ok {} {} {}",
+            kind_of(told.kind),
+            register.stamp,
+            register.desk
+        )?;
+        write!(f, " {} {}", told.restarts, Hex(register.value.bytes()))
     }
-    let register = told.register;
-    let value = register.value;
-    if told.kind == 1 {
-        word(out, b"ok read")?;
-    } else {
-        word(out, b"ok write")?;
-    }
-    item(out, b" ", register.stamp as u64)?;
-    item(out, b" ", register.desk as u64)?;
-    item(out, b" ", told.restarts as u64)?;
-    word(out, b" ")?;
-    print_value(out, value)
 }
 
 // Twice the weight of the servers that answered, less W.
-fn margin(out: &Stdout, answer: Signed) -> io::Result<()> {
-    match answer {
-        Signed::Value(x) => {
-            word(out, b"ok ")?;
-            signed(out, x)
-        }
-        Signed::Refused(r) => refusal(out, r),
+#[derive(Clone, Copy)]
+struct Margin(i64);
+
+impl fmt::Display for Margin {
+    fn fmt<W: fmt::Write>(&self, f: &mut fmt::Formatter<W>) -> fmt::Result {
+        write!(f, "ok {}", self.0)
     }
 }

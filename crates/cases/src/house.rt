@@ -5,22 +5,16 @@ use script::House;
 use server::{Server, ServerAnswer};
 
 // What a call on messages is handed.
-pub(crate) fn config_of(house: House) -> Config {
-    let starts = house.starts;
-    let end = house.kept();
-    Config::given(house.n, house.f, &starts[..end])
+pub(crate) fn config_of(house: &House) -> Config {
+    Config::given(house.n, house.f, house.kept())
 }
 
 // A server of the house, fresh.
-pub(crate) fn open_server(house: House, number: u64) -> ServerAnswer {
-    let starts = house.starts;
-    let end = house.kept();
-    Server::open(house.n, house.f, number, &starts[..end])
+pub(crate) fn open_server(house: &House, number: u64) -> ServerAnswer {
+    Server::open(house.n, house.f, number, house.kept())
 }
 
 // A desk of the house, fresh.
-pub(crate) fn open_desk(house: House, number: u64) -> DeskAnswer {
-    let starts = house.starts;
-    let end = house.kept();
-    Desk::open(house.n, house.f, number, &starts[..end])
+pub(crate) fn open_desk(house: &House, number: u64) -> DeskAnswer {
+    Desk::open(house.n, house.f, number, house.kept())
 }

@@ -1,97 +1,72 @@
-// Text out, to standard output.
-ghost use Rattle.std.specs.Prelude.{◌≡◌, ◌<◌, ◌≤◌, length, take};
+// Answers as text.
+ghost use Rattle.std.specs.Iterator.{IsFinite};
 
-use config::{Number, Refusal, Verdict};
-use std::io::{self, Stdout};
+use config::Refusal;
+use std::fmt;
 
-pub(crate) fn word(out: &Stdout, text: &[u8]) -> io::Result<()> {
-    out.write_all(text)
-}
+// What a call hands back, or its refusal by its number.
+#[derive(Drop)]
+pub(crate) struct Answer<T>(pub Result<T, Refusal>);
 
-// A number in decimal.
-pub(crate) fn number(out: &Stdout, x: u64) -> io::Result<()> {
-    out.print(x)
-}
-
-// A number after its name.
-pub(crate) fn item(out: &Stdout, name: &[u8], x: u64) -> io::Result<()> {
-    word(out, name)?;
-    number(out, x)
-}
-
-// A signed number. The least one has no positive counterpart, so the one is added after the change of sign.
-pub(crate) fn signed(out: &Stdout, x: i64) -> io::Result<()> {
-    if x < 0 {
-        word(out, b"-")?;
-        number(out, (-1 - x) as u64 + 1)
-    } else {
-        number(out, x as u64)
+impl Answer<&'static str> {
+    // The answer to a call that hands back nothing.
+    pub(crate) fn done(verdict: Result<(), Refusal>) -> Answer<&'static str> {
+        Answer(verdict.map(|()| "ok"))
     }
 }
 
-// A refusal, by its number.
-pub(crate) fn refusal(out: &Stdout, r: Refusal) -> io::Result<()> {
-    item(out, b"no ", r.number())
-}
-
-// A refusal as a C host gets it: −1,000,000 less its number.
-pub(crate) fn code(out: &Stdout, r: Refusal) -> io::Result<()> {
-    item(out, b"-", 1000000 + r.number())
-}
-
-// What a call that hands back no number answers.
-pub(crate) fn verdict(out: &Stdout, v: Verdict) -> io::Result<()> {
-    match v {
-        Verdict::Accepted => word(out, b"ok"),
-        Verdict::Refused(r) => refusal(out, r),
-    }
-}
-
-// A number that is asked for, or its refusal.
-pub(crate) fn answer(out: &Stdout, x: Number) -> io::Result<()> {
-    match x {
-        Number::Value(value) => number(out, value),
-        Number::Refused(r) => refusal(out, r),
-    }
-}
-
-fn glyph(d: u8) -> u8
-    requires { d < 16 }
-{
-    if d < 10 { b'0' + d } else { b'A' + (d - 10) }
-}
-
-// A byte's first hex digit, or its second.
-fn half(byte: u8, second: bool) -> u8 {
-    if second {
-        return glyph(byte % 16);
-    }
-    glyph(byte / 16)
-}
-
-// Bytes in hex; `-` for none. No more than 2,048 are shown, and nothing here has more.
-pub(crate) fn hex(out: &Stdout, bytes: &[u8]) -> io::Result<()> {
-    if bytes.len() == 0 {
-        word(out, b"-")?;
-    }
-    let mut text: [u8; 4096] = [0; 4096];
-    let end = digits(bytes, &mut text);
-    word(out, &text[..end])
-}
-
-// The hex digits of as many bytes as there is room for, at the front of `text`, and how many digits these are.
-fn digits(bytes: &[u8], text: &mut [u8]) -> usize
-    requires { 4096 ≡ length text.old }
-    ensures { (4096 ≡ length text.new) × (result ≤ length text.new) × (result ≡ length (take result text.new)) }
-{
-    let mut at: usize = 0;
-    while at < text.len() {
-        let k = at / 2;
-        if bytes.len() <= k {
-            return at;
+impl<T: fmt::Display> fmt::Display for Answer<T> {
+    fn fmt<W: fmt::Write>(&self, f: &mut fmt::Formatter<W>) -> fmt::Result {
+        match &self.0 {
+            Ok(x) => write!(f, "{x}"),
+            Err(refusal) => write!(f, "no {}", refusal.number()),
         }
-        text[at] = half(bytes[k], at % 2 == 1);
-        at += 1;
     }
-    at
+}
+
+// The same as a C host gets it: a refusal is −1,000,000 less its number.
+#[derive(Drop)]
+pub(crate) struct Code<T>(pub Result<T, Refusal>);
+
+impl<T: fmt::Display> fmt::Display for Code<T> {
+    fn fmt<W: fmt::Write>(&self, f: &mut fmt::Formatter<W>) -> fmt::Result {
+        match &self.0 {
+            Ok(x) => write!(f, "{x}"),
+            Err(refusal) => write!(f, "-{}", 1000000 + refusal.number()),
+        }
+    }
+}
+
+// Bytes in hex; `-` for none.
+#[derive(Clone, Copy)]
+pub(crate) struct Hex<'a>(pub &'a [u8]);
+
+impl fmt::Display for Hex<'_> {
+    fn fmt<W: fmt::Write>(&self, f: &mut fmt::Formatter<W>) -> fmt::Result {
+        if self.0.is_empty() {
+            return f.write_str("-");
+        }
+        for byte in self.0 {
+            write!(f, "{byte:02X}")?;
+        }
+        Ok(())
+    }
+}
+
+// Numbers with commas between them; `-` for none.
+pub(crate) fn commas<W: fmt::Write, I: Iterator<Item = u16> + Drop>(
+    f: &mut fmt::Formatter<W>,
+    mut numbers: I,
+) -> fmt::Result
+    requires can { I.can_next numbers }
+    requires ends { IsFinite (I.remaining numbers) }
+{
+    let Some(first) = numbers.next() else {
+        return f.write_str("-");
+    };
+    write!(f, "{first}")?;
+    for x in numbers {
+        write!(f, ",{x}")?;
+    }
+    Ok(())
 }

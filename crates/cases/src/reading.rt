@@ -1,102 +1,80 @@
 // The answer to a message: what the reader finds in it, what the ledger in it says, and whether the writer makes the same bytes again.
 ghost use Rattle.std.specs.Prelude.{◌≤◌, length};
 
-use super::print::{hex, item, word};
-use super::record::weights;
+use super::print::{Answer, Hex};
+use super::record::Weights;
 use super::writing::is_written_again;
-use config::{Config, Verdict};
-use message::Fields;
+use config::{Config, Refusal};
+use message::{Envelope, Fields};
 use reader::{check, fields, receive, value};
-use std::io::{self, Stdout};
+use replica::Tag;
+use std::io;
 
-// The number of a verdict; 0 where it accepts.
-fn number_of(verdict: Verdict) -> u64 {
-    match verdict {
-        Verdict::Accepted => 0,
-        Verdict::Refused(refusal) => refusal.number(),
-    }
+// The number of a verdict; 0 where it accepts, as a transcript prints it (docs/SCRIPTS.md).
+fn number_of(verdict: Result<(), Refusal>) -> u64 {
+    verdict.err().map_or(0, Refusal::number)
 }
 
 // The answer to a message; `longer` is the message with a zero byte more.
-pub(crate) fn answer_message(out: &Stdout, config: Config, longer: &[u8]) -> io::Result<()>
-    requires { (1 ≤ length longer.now) × (length longer.now ≤ 2049) }
+pub(crate) fn answer_message(
+    out: &impl Print,
+    config: &Config,
+    msg: &[u8],
+    longer: &[u8],
+) -> io::Result<()>
+    requires { length msg.now ≤ 2048 }
 {
-    let end = longer.len() - 1;
-    let msg = &longer[..end];
-    let found = number_of(check(config, msg));
-    let read = fields(config, msg);
-    let verdict = read.verdict;
+    let found = check(config, msg);
     let part = value(config, msg);
-    if number_of(verdict) != found {
-        refused(out, found, false)?;
-        return Ok(());
+    match (found, fields(config, msg)) {
+        (Ok(()), Ok(read)) => {
+            accepted(out, config, &read, part)?;
+            tried(out, config, msg, longer)?;
+            again(out, config, msg)
+        }
+        // All three calls refuse the message, by the same number.
+        (Err(r), Err(s)) if r == s && part.is_empty() => out.print(Answer::done(found)),
+        _ => print!(out; "no {} MISMATCH", number_of(found)),
     }
-    if found != 0 {
-        refused(out, found, part.len() == 0)?;
-        return Ok(());
-    }
-    accepted(out, config, read, part)?;
-    tried(out, config, msg, longer)?;
-    again(out, config, msg)
-}
-
-// `agreed`: all three calls refuse the message, by the same number.
-fn refused(out: &Stdout, number: u64, agreed: bool) -> io::Result<()> {
-    item(out, b"no ", number)?;
-    if !agreed {
-        word(out, b" MISMATCH")?;
-    }
-    Ok(())
 }
 
 // The fields of a message.
-fn accepted(out: &Stdout, config: Config, read: Fields, part: &[u8]) -> io::Result<()> {
-    let envelope = read.envelope;
-    let tag = read.tag;
-    let ledger = read.ledger;
-    item(out, b"ok kind ", envelope.kind as u64)?;
-    item(out, b" server ", envelope.server as u64)?;
-    item(out, b" desk ", envelope.desk as u64)?;
-    item(out, b" round ", envelope.round as u64)?;
-    item(out, b" tag ", tag.stamp as u64)?;
-    item(out, b" ", tag.desk as u64)?;
-    item(out, b" note ", envelope.note as u64)?;
-    word(out, b" value ")?;
-    hex(out, part)?;
-    word(out, b" weights")?;
-    weights(out, config, ledger)
+fn accepted(out: &impl Print, config: &Config, read: &Fields, part: &[u8]) -> io::Result<()> {
+    let Envelope {
+        kind,
+        server,
+        desk,
+        round,
+        note,
+    } = read.envelope;
+    let Tag {
+        stamp,
+        desk: writer,
+    } = read.tag;
+    print!(out; "ok kind {kind} server {server} desk {desk} round {round}")?;
+    print!(out; " tag {stamp} {writer} note {note} value {}", Hex(part))?;
+    print!(out; " weights{}", Weights(config, &read.ledger))
 }
 
 // The check of the message cut short, at every length, and of the message with a zero byte more.
-fn tried(out: &Stdout, config: Config, msg: &[u8], longer: &[u8]) -> io::Result<()> {
-    item(out, b" cut ", torn(config, msg) as u64)?;
-    item(out, b" of ", msg.len() as u64)?;
-    item(out, b" longer ", number_of(check(config, longer)))
+fn tried(out: &impl Print, config: &Config, msg: &[u8], longer: &[u8]) -> io::Result<()> {
+    let length = msg.len();
+    let passed = number_of(check(config, longer));
+    print!(out; " cut {} of {length} longer {passed}", torn(config, msg))
 }
 
-// How many of the message's proper prefixes are torn (2).
-fn torn(config: Config, msg: &[u8]) -> usize {
-    let mut count: usize = 0;
-    let mut k: usize = 0;
-    while k < msg.len() {
-        if number_of(check(config, &msg[..k])) == 2 {
-            count += 1;
-        }
-        k += 1;
-    }
-    count
+// How many of the message's proper prefixes are torn.
+fn torn(config: &Config, msg: &[u8]) -> usize {
+    (0..msg.len())
+        .filter(|k| check(config, &msg[..*k]) == Err(Refusal::Torn))
+        .count()
 }
 
-fn again(out: &Stdout, config: Config, msg: &[u8]) -> io::Result<()>
+fn again(out: &impl Print, config: &Config, msg: &[u8]) -> io::Result<()>
     requires { length msg.now ≤ 2048 }
 {
-    word(out, b" again ")?;
-    let got = receive(config, msg);
-    let envelope = got.envelope;
-    let replica = got.replica;
-    if is_written_again(config, envelope, replica, msg) {
-        word(out, b"same")
-    } else {
-        word(out, b"other")
+    match receive(config, msg) {
+        Ok(got) if is_written_again(config, &got, msg) => print!(out; " again same"),
+        _ => print!(out; " again other"),
     }
 }

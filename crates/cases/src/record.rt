@@ -1,199 +1,160 @@
 // Records on one line, for a person to read.
-ghost use Rattle.std.specs.Prelude.{◌≤◌};
-
-use super::print::{hex, item, number, refusal, signed, word};
-use config::{Config, Signed};
+use super::print::{Answer, Hex, commas};
+use config::Config;
 use desk::{Desk, Operation};
 use ledger::Ledger;
-use replica::{Register, Replica, Value};
+use replica::Replica;
 use server::Server;
-use std::io::{self, Stdout};
+use std::fmt;
 
-pub(crate) fn print_server(out: &Stdout, server: Server) -> io::Result<()> {
-    item(out, b"server ", server.number)?;
-    replica_fields(out, server.config, server.replica)
+#[derive(Clone, Copy)]
+pub(crate) struct ServerRecord<'a>(pub &'a Server);
+
+impl fmt::Display for ServerRecord<'_> {
+    fn fmt<W: fmt::Write>(&self, f: &mut fmt::Formatter<W>) -> fmt::Result {
+        let server = self.0;
+        let held = Held(&server.config, &server.replica);
+        write!(f, "server {} {held}", server.number)
+    }
 }
 
-pub(crate) fn print_desk(out: &Stdout, desk: Desk) -> io::Result<()> {
-    item(out, b"desk ", desk.number)?;
-    replica_fields(out, desk.config, desk.replica)?;
-    item(out, b" round ", desk.round as u64)?;
-    operation_fields(out, desk.operation)
+#[derive(Clone, Copy)]
+pub(crate) struct DeskRecord<'a>(pub &'a Desk);
+
+impl fmt::Display for DeskRecord<'_> {
+    fn fmt<W: fmt::Write>(&self, f: &mut fmt::Formatter<W>) -> fmt::Result {
+        let desk = self.0;
+        let held = Held(&desk.config, &desk.replica);
+        write!(f, "desk {} {held} round {}", desk.number, desk.round)?;
+        write!(f, " operation {}", Progress(&desk.operation))
+    }
 }
 
 // What servers and desks both hold.
-fn replica_fields(out: &Stdout, config: Config, replica: Replica) -> io::Result<()> {
-    let register = replica.register;
-    let ledger = replica.ledger;
-    item(out, b" n ", config.n)?;
-    item(out, b" f ", config.f)?;
-    word(out, b" starts ")?;
-    starts(out, config)?;
-    item(out, b" tag ", register.stamp as u64)?;
-    item(out, b" ", register.desk as u64)?;
-    word(out, b" value ")?;
-    print_value(out, register.value)?;
-    word(out, b" weights")?;
-    weights(out, config, ledger)?;
-    word(out, b" counts")?;
-    counts(out, config, ledger)?;
-    word(out, b" cells")?;
-    cells(out, ledger)
+#[derive(Clone, Copy)]
+struct Held<'a>(&'a Config, &'a Replica);
+
+impl fmt::Display for Held<'_> {
+    fn fmt<W: fmt::Write>(&self, f: &mut fmt::Formatter<W>) -> fmt::Result {
+        let Held(config, replica) = self;
+        let register = &replica.register;
+        let value = Hex(register.value.bytes());
+        write!(f, "n {} f {} starts {}", config.n, config.f, Starts(config))?;
+        write!(f, " tag {} {} value {value}", register.stamp, register.desk)?;
+        write!(f, " weights{}", Weights(config, &replica.ledger))?;
+        write!(f, " counts{}", Counts(config, &replica.ledger))?;
+        write!(f, " cells{}", Cells(&replica.ledger))
+    }
 }
 
-fn operation_fields(out: &Stdout, operation: Operation) -> io::Result<()> {
-    word(out, b" operation ")?;
-    mode(out, operation.mode)?;
-    word(out, b" ")?;
-    kind(out, operation.kind)?;
-    item(out, b" phase ", operation.phase as u64)?;
-    item(out, b" note ", operation.note as u64)?;
-    item(out, b" restarts ", operation.restarts as u64)?;
-    word(out, b" answered ")?;
-    servers(out, operation.answered)?;
-    word(out, b" writing ")?;
-    print_value(out, operation.value)?;
-    word(out, b" chosen ")?;
-    register_fields(out, operation.chosen)
-}
-
-fn register_fields(out: &Stdout, register: Register) -> io::Result<()> {
-    number(out, register.stamp as u64)?;
-    item(out, b" ", register.desk as u64)?;
-    word(out, b" ")?;
-    print_value(out, register.value)
-}
-
-// Whether there is an operation.
-fn mode(out: &Stdout, mode: u32) -> io::Result<()> {
+// What a mode says of an operation.
+fn mode_of(mode: u32) -> &'static str {
     match mode {
-        0 => word(out, b"none"),
-        1 => word(out, b"running"),
-        _ => word(out, b"ended"),
+        0 => "none",
+        1 => "running",
+        _ => "ended",
     }
 }
 
-fn kind(out: &Stdout, kind: u16) -> io::Result<()> {
+pub(crate) fn kind_of(kind: u16) -> &'static str {
     match kind {
-        0 => word(out, b"none"),
-        1 => word(out, b"read"),
-        _ => word(out, b"write"),
+        0 => "none",
+        1 => "read",
+        _ => "write",
     }
 }
 
-// The start weight of each server, with commas between them; `-` for none.
-fn starts(out: &Stdout, config: Config) -> io::Result<()> {
-    let n = config.n;
-    if n == 0 {
-        word(out, b"-")?;
+// An operation, as far as it has come.
+#[derive(Clone, Copy)]
+struct Progress<'a>(&'a Operation);
+
+impl fmt::Display for Progress<'_> {
+    fn fmt<W: fmt::Write>(&self, f: &mut fmt::Formatter<W>) -> fmt::Result {
+        let Operation {
+            mode,
+            note,
+            restarts,
+            kind,
+            phase,
+            answered,
+            value,
+            chosen,
+        } = self.0;
+        write!(f, "{} {}", mode_of(*mode), kind_of(*kind))?;
+        write!(f, " phase {phase} note {note} restarts {restarts}")?;
+        write!(f, " answered {}", Map(*answered))?;
+        write!(f, " writing {}", Hex(value.bytes()))?;
+        write!(f, " chosen {} {}", chosen.stamp, chosen.desk)?;
+        write!(f, " {}", Hex(chosen.value.bytes()))
     }
-    let mut server: u64 = 0;
-    while server < 16 {
-        if server < n {
-            start(out, server, config.start_at(server))?;
-        }
-        server += 1;
-    }
-    Ok(())
 }
 
-// A comma stands before each but the first.
-fn start(out: &Stdout, server: u64, weight: u64) -> io::Result<()> {
-    if 0 < server {
-        word(out, b",")?;
-    }
-    number(out, weight)
-}
+// The start weight of each server.
+#[derive(Clone, Copy)]
+struct Starts<'a>(&'a Config);
 
-// The bytes of a value.
-pub(crate) fn print_value(out: &Stdout, value: Value) -> io::Result<()> {
-    let bytes = value.bytes;
-    let end = short(value.length as usize);
-    hex(out, &bytes[..end])
-}
-
-fn short(length: usize) -> usize
-    ensures { result ≤ 64 }
-{
-    if 64 < length {
-        return 64;
+impl fmt::Display for Starts<'_> {
+    fn fmt<W: fmt::Write>(&self, f: &mut fmt::Formatter<W>) -> fmt::Result {
+        let config = self.0;
+        commas(f, config.starts.iter().copied().take(config.n as usize))
     }
-    length
 }
 
 // The weight of each server.
-pub(crate) fn weights(out: &Stdout, config: Config, ledger: Ledger) -> io::Result<()> {
-    let n = config.n;
-    let mut server: u64 = 0;
-    while server < n {
-        weight(out, ledger.weight(config, server))?;
-        server += 1;
-    }
-    Ok(())
-}
+#[derive(Clone, Copy)]
+pub(crate) struct Weights<'a>(pub &'a Config, pub &'a Ledger);
 
-fn weight(out: &Stdout, answer: Signed) -> io::Result<()> {
-    word(out, b" ")?;
-    match answer {
-        Signed::Value(x) => signed(out, x),
-        Signed::Refused(r) => refusal(out, r),
+impl fmt::Display for Weights<'_> {
+    fn fmt<W: fmt::Write>(&self, f: &mut fmt::Formatter<W>) -> fmt::Result {
+        let Weights(config, ledger) = self;
+        for server in 0..config.n {
+            write!(f, " {}", Answer(ledger.weight(config, server)))?;
+        }
+        Ok(())
     }
 }
 
 // How many transfers each server made.
-fn counts(out: &Stdout, config: Config, ledger: Ledger) -> io::Result<()> {
-    let n = config.n;
-    let mut i: usize = 0;
-    while i < 16 {
-        if (i as u64) < n {
-            item(out, b" ", ledger.counts[i] as u64)?;
+#[derive(Clone, Copy)]
+struct Counts<'a>(&'a Config, &'a Ledger);
+
+impl fmt::Display for Counts<'_> {
+    fn fmt<W: fmt::Write>(&self, f: &mut fmt::Formatter<W>) -> fmt::Result {
+        let Counts(config, ledger) = self;
+        for count in ledger.counts.iter().take(config.n as usize) {
+            write!(f, " {count}")?;
         }
-        i += 1;
+        Ok(())
     }
-    Ok(())
 }
 
-// What each server gave each other one.
-fn cells(out: &Stdout, ledger: Ledger) -> io::Result<()> {
-    let mut shown = false;
-    let mut k: usize = 0;
-    while k < 256 {
-        let amount = ledger.cells[k];
-        if amount != 0 {
-            cell(out, k as u64, amount as u64)?;
-            shown = true;
-        }
-        k += 1;
-    }
-    if !shown {
-        word(out, b" -")?;
-    }
-    Ok(())
-}
+// What each server gave each other one: giver, taker and amount.
+#[derive(Clone, Copy)]
+struct Cells<'a>(&'a Ledger);
 
-// The cell at a place of the array, as giver, taker and amount.
-fn cell(out: &Stdout, place: u64, amount: u64) -> io::Result<()> {
-    item(out, b" ", place / 16)?;
-    item(out, b">", place % 16)?;
-    item(out, b":", amount)
-}
-
-// The servers of a map, with commas between them; `-` for none.
-fn servers(out: &Stdout, map: u16) -> io::Result<()> {
-    if map == 0 {
-        word(out, b"-")?;
-    }
-    let mut rest = map;
-    let mut i: u64 = 0;
-    while i < 16 {
-        if rest % 2 == 1 {
-            number(out, i)?;
-            if 1 < rest {
-                word(out, b",")?;
+impl fmt::Display for Cells<'_> {
+    fn fmt<W: fmt::Write>(&self, f: &mut fmt::Formatter<W>) -> fmt::Result {
+        let mut shown = false;
+        for (k, amount) in self.0.cells.iter().enumerate() {
+            if *amount != 0 {
+                write!(f, " {}>{}:{amount}", k / 16, k % 16)?;
+                shown = true;
             }
         }
-        rest = rest / 2;
-        i += 1;
+        if !shown {
+            f.write_str(" -")?;
+        }
+        Ok(())
     }
-    Ok(())
+}
+
+// The servers of a map.
+#[derive(Clone, Copy)]
+struct Map(u16);
+
+impl fmt::Display for Map {
+    fn fmt<W: fmt::Write>(&self, f: &mut fmt::Formatter<W>) -> fmt::Result {
+        let map = self.0;
+        commas(f, (0..16).filter(|server| (map >> *server) & 1 == 1))
+    }
 }

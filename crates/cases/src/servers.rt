@@ -1,57 +1,55 @@
 // The calls of a server, each with its answer.
-use super::buffer::{lent, marked, written};
-use super::print::{verdict, word};
-use super::record::print_server;
+use super::buffer::answer_written;
+use super::print::Answer;
+use super::record::ServerRecord;
 use script::ServerCall;
 use server::Server;
-use std::io::{self, Stdout};
+use std::io;
 
-// Makes a call, answers it, and hands back the record that the call left. A crash changes no record.
-pub(crate) fn call_server(
-    out: &Stdout,
-    server: Server,
-    call: ServerCall,
-    bytes: &[u8],
-) -> io::Result<Server> {
-    match call {
-        ServerCall::Share(at, len) => {
-            share(out, server, at as usize, len)?;
-            Ok(server)
-        }
-        ServerCall::Serve(at, len) => serve(out, server, at as usize, len, bytes),
-        ServerCall::Transfer(taker, amount) => transfer(out, server, taker, amount),
-        ServerCall::Crash => {
-            word(out, b"ok")?;
-            Ok(server)
-        }
-        ServerCall::Record => {
-            print_server(out, server)?;
-            Ok(server)
+// A server, and whether it has crashed, which changes no record.
+#[derive(Clone, Copy)]
+pub(crate) struct Post {
+    pub server: Server,
+    pub crashed: bool,
+}
+
+impl Post {
+    // Makes a call and answers it. Of a server that has crashed only the record is shown; another crash has no effect.
+    pub(crate) fn call(
+        &mut self,
+        out: &impl Print,
+        call: ServerCall,
+        bytes: &[u8],
+    ) -> io::Result<()> {
+        match call {
+            ServerCall::Record => self.show(out),
+            ServerCall::Crash => {
+                self.crashed = true;
+                out.print("ok")
+            }
+            _ if self.crashed => out.print("crashed"),
+            ServerCall::Share(at, len) => {
+                answer_written(out, at, len, |space, at| self.server.share(space, at))
+            }
+            ServerCall::Serve(at, len) => answer_written(out, at, len, |space, at| {
+                let served = self.server.serve(bytes, space, at);
+                self.server = served.server;
+                served.answer
+            }),
+            ServerCall::Transfer(taker, amount) => {
+                let answer = self.server.transfer(taker, amount);
+                self.server = answer.server;
+                out.print(Answer::done(answer.verdict))
+            }
         }
     }
-}
 
-fn share(out: &Stdout, server: Server, at: usize, len: u64) -> io::Result<()> {
-    let mut space = marked();
-    let end = lent(len);
-    let answer = server.share(&mut space[..end], at);
-    written(out, answer, at, &space)
-}
-
-fn serve(out: &Stdout, server: Server, at: usize, len: u64, msg: &[u8]) -> io::Result<Server> {
-    let mut space = marked();
-    let end = lent(len);
-    let served = server.serve(msg, &mut space[..end], at);
-    let answer = served.answer;
-    let after = served.server;
-    written(out, answer, at, &space)?;
-    Ok(after)
-}
-
-fn transfer(out: &Stdout, server: Server, taker: u64, amount: u64) -> io::Result<Server> {
-    let answer = server.transfer(taker, amount);
-    let told = answer.verdict;
-    let after = answer.server;
-    verdict(out, told)?;
-    Ok(after)
+    // The record of a server that has crashed says so.
+    fn show(&self, out: &impl Print) -> io::Result<()> {
+        out.print(ServerRecord(&self.server))?;
+        if self.crashed {
+            out.print(" crashed")?;
+        }
+        Ok(())
+    }
 }

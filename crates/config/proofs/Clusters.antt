@@ -1,4 +1,5 @@
 -- Laws of the cluster's parameters: what validity says, the total, the least weight as the floor's other side, and what an answer tells.
+use Rattle.std.specs.Prelude.{Result, Ok, Err, Some, None, is_ok, ok_or}
 use Prim.Native.Nat.{ℕ, suc, ◌+◌, ◌-◌, ◌*◌, ◌/◌, ◌≤◌, ◌<◌}
 use native.Mathlib.Nat.{add-mul, div-lt_iff_lt-mul, div-le_self, lt_of_mul-lt-mul_right, lt_of_le_of_lt, le-add_right}
 use native.Mathlib.Omega.{arith}
@@ -17,13 +18,12 @@ use Rattle.quorums.proofs.Tests.{le-or-lt, ltb-same, leb-not, test-false, both, 
 use Rattle.quorums.proofs.Differences.{pos-difference, difference-down}
 use Rattle.quorums.proofs.Weights.{above-is}
 use Rattle.config.specs.declared.cluster.Config.{Config}
-use Rattle.config.specs.Refusals.{refusal}
+use Rattle.config.specs.Refusals.{Verdict, granted, refusal}
 use Rattle.config.specs.declared.answer.Refusal.{Refusal}
-use Rattle.config.specs.declared.answer.Number.{Number}
-use Rattle.config.specs.Cluster.{in_bounds, cluster_of, valid_of, lawful_of, ends_of, starts_above, cluster_fault, why_of, server_of, start_of, total_of, above_of, least_of, least_if, least_by}
+use Rattle.config.specs.Cluster.{in_bounds, cluster_of, valid_of, lawful_of, ends_of, starts_above, cluster_fault, why_of, server_of, start_of, total_of, above_of, least_of, least_by}
 use Rattle.config.specs.declared.cluster.First.{First}
 use Rattle.config.specs.Firsts.{Firsts}
-use Rattle.config.specs.Answers.{judged, total_answer, least_answer}
+use Rattle.config.specs.Answers.{judged, checked_answer, total_answer, least_answer}
 
 -- ---- validity
 
@@ -207,21 +207,21 @@ starts-least c v = all_same c.n _ _ (λ i l. start-least c i v)
 
 -- ---- answers
 
-pub value-not-refused : (x : ℕ) (r : Refusal) → Number.Value x ≡ Number.Refused r → ⊥
+pub value-not-refused : (x : ℕ) (r : Refusal) → Ok x ≡ Err r → ⊥
 value-not-refused x r e = let z : ◌≡◌ {A = ℕ} 0 1 = cc in omega arith
 
-refused-value : (r : Refusal) (x : ℕ) → Number.Refused r ≡ Number.Value x → ⊥
+refused-value : (r : Refusal) (x : ℕ) → Err r ≡ Ok x → ⊥
 refused-value r x e = value-not-refused x r (sym e)
 
 -- what an answer with a value tells, and one that refuses
-told-value : (c : Config) (x y : ℕ) → judged (valid_of c) c (Number.Value x) Number.Refused ≡ Number.Value y → (lawful_of c ≡ true) × (y ≡ x)
+told-value : (c : Config) (x y : ℕ) → judged (valid_of c) c (Ok x) Err ≡ Ok y → (lawful_of c ≡ true) × (y ≡ x)
 told-value c x y e =
     let first = chosen-first (valid_of c) _ _ _ (refused-value _ y) e in
     let second = chosen-first (lawful_of c) _ _ _ (refused-value _ y) first.1 in
     (second.0, cc second.1)
 
 -- the number of a refusal is the cluster's
-told-refused : (c : Config) (x : ℕ) (r : Refusal) → judged (valid_of c) c (Number.Value x) Number.Refused ≡ Number.Refused r
+told-refused : (c : Config) (x : ℕ) (r : Refusal) → judged (valid_of c) c (Ok x) Err ≡ Err r
     → (lawful_of c ≡ false) × (r ≡ refusal (cluster_fault c))
 unfolding cluster_fault
 told-refused c x r e = by-valid (valid_of c) refl
@@ -234,19 +234,19 @@ told-refused c x r e = by-valid (valid_of c) refl
     by-valid true v = by_lawful (lawful_of c) refl v
     by-valid false v = let z = rw v at e in (not-lawful c v, rw v (cc z))
 
-pub total-told : (c : Config) (y : ℕ) → total_answer c ≡ Number.Value y → (lawful_of c ≡ true) × (y ≡ total_of c)
+pub total-told : (c : Config) (y : ℕ) → total_answer c ≡ Ok y → (lawful_of c ≡ true) × (y ≡ total_of c)
 unfolding total_answer
 total-told c y e = told-value c (total_of c) y e
 
-pub total-refused : (c : Config) (r : Refusal) → total_answer c ≡ Number.Refused r → (lawful_of c ≡ false) × (r ≡ refusal (cluster_fault c))
+pub total-refused : (c : Config) (r : Refusal) → total_answer c ≡ Err r → (lawful_of c ≡ false) × (r ≡ refusal (cluster_fault c))
 unfolding total_answer
 total-refused c r e = told-refused c (total_of c) r e
 
-pub least-told : (c : Config) (y : ℕ) → least_answer c ≡ Number.Value y → (lawful_of c ≡ true) × (y ≡ least_of c)
+pub least-told : (c : Config) (y : ℕ) → least_answer c ≡ Ok y → (lawful_of c ≡ true) × (y ≡ least_of c)
 unfolding least_answer
 least-told c y e = told-value c (least_of c) y e
 
-pub least-refused : (c : Config) (r : Refusal) → least_answer c ≡ Number.Refused r → (lawful_of c ≡ false) × (r ≡ refusal (cluster_fault c))
+pub least-refused : (c : Config) (r : Refusal) → least_answer c ≡ Err r → (lawful_of c ≡ false) × (r ≡ refusal (cluster_fault c))
 unfolding least_answer
 least-refused c r e = told-refused c (least_of c) r e
 
@@ -261,6 +261,72 @@ judged-fault {A} c x refused e = by-valid (valid_of c)
     by-valid : (t : Bool) → cond t (cond (lawful_of c) x (refused (refusal 15))) (refused (refusal 1)) ≡ refused (refusal (cond t (cond (lawful_of c) 0 15) 1))
     by-valid true = rw e refl
     by-valid false = refl
+
+-- what a call answers that asks for the least weight first, and hands on what is wrong
+pub judged-ok : {A : Type 0} (c : Config) (x : Result A Refusal) (k : ℕ) → least_answer c ≡ Ok k → x ≡ judged (valid_of c) c x Err
+judged-ok c x k e = sym (judged-lawful c x Err (least-told c k e).0)
+
+pub judged-err : {A : Type 0} (c : Config) (x : Result A Refusal) (r : Refusal) → least_answer c ≡ Err r → Err r ≡ judged (valid_of c) c x Err
+judged-err c x r e = let t = least-refused c r e in ap Err t.1 ∙ sym (judged-fault c x Err t.0)
+
+-- what a call answers that asks whether anything is wrong: the refusal of that number, 0 being none
+pub checked-fault : (c : Config) → checked_answer c ≡ cond (eqb (cluster_fault c) 0) granted (Err (refusal (cluster_fault c)))
+unfolding checked_answer cluster_fault
+checked-fault c = by_tests (valid_of c) (lawful_of c)
+  where
+    by_tests : (v l : Bool)
+        → ◌≡◌ {A = Verdict} (cond v (cond l granted (Err (refusal 15))) (Err (refusal 1))) (cond (eqb (cond v (cond l 0 15) 1) 0) granted (Err (refusal (cond v (cond l 0 15) 1))))
+    by_tests true true = refl
+    by_tests true false = refl
+    by_tests false l = refl
+
+pub checked-told : (c : Config) → checked_answer c ≡ granted → lawful_of c ≡ true
+unfolding checked_answer
+checked-told c e = by_tests (valid_of c) (lawful_of c) e
+  where
+    by_tests : (v l : Bool) → ◌≡◌ {A = Verdict} (cond v (cond l granted (Err (refusal 15))) (Err (refusal 1))) granted → l ≡ true
+    by_tests true true d = refl
+    by_tests true false d = cc
+    by_tests false l d = cc
+
+pub checked-refused : (c : Config) (r : Refusal) → valid_of c ≡ true → checked_answer c ≡ Err r → (lawful_of c ≡ false) × (r ≡ refusal 15)
+unfolding checked_answer
+checked-refused c r v e = by_lawful (lawful_of c) (rw v at e)
+  where
+    by_lawful : (l : Bool) → ◌≡◌ {A = Verdict} (cond l granted (Err (refusal 15))) (Err r) → (l ≡ false) × (r ≡ refusal 15)
+    by_lawful true d = cc
+    by_lawful false d = (refl, cc)
+
+-- the least weight is there exactly for a lawful cluster
+pub least-ok : (c : Config) → is_ok (least_answer c) ≡ lawful_of c
+unfolding least_answer
+least-ok c = by_lawful (lawful_of c) refl
+  where
+    by_lawful : (l : Bool) → lawful_of c ≡ l → is_ok (judged (valid_of c) c (Ok (least_of c)) Err) ≡ l
+    by_lawful true e = ap is_ok (judged-lawful c _ Err e)
+    by_lawful false e = ap is_ok (judged-fault c _ Err e)
+
+pub chosen-ok : (c : Config) (k : ℕ) → ok_or (cond (lawful_of c) (Some (least_of c)) None) (refusal 15) ≡ Ok k → (lawful_of c ≡ true) × (k ≡ least_of c)
+chosen-ok c k e = by_lawful (lawful_of c) e
+  where
+    by_lawful : (l : Bool) → ok_or (cond l (Some (least_of c)) None) (refusal 15) ≡ Ok k → (l ≡ true) × (k ≡ least_of c)
+    by_lawful true d = (refl, cc)
+    by_lawful false d = cc
+
+pub chosen-err : (c : Config) (r : Refusal) → ok_or (cond (lawful_of c) (Some (least_of c)) None) (refusal 15) ≡ Err r → (lawful_of c ≡ false) × (r ≡ refusal 15)
+chosen-err c r e = by_lawful (lawful_of c) e
+  where
+    by_lawful : (l : Bool) → ok_or (cond l (Some (least_of c)) None) (refusal 15) ≡ Err r → (l ≡ false) × (r ≡ refusal 15)
+    by_lawful true d = cc
+    by_lawful false d = (refl, cc)
+
+pub least-of-valid : (c : Config) → valid_of c ≡ true → ok_or (cond (lawful_of c) (Some (least_of c)) None) (refusal 15) ≡ least_answer c
+unfolding least_answer
+least-of-valid c v = rw v (by_lawful (lawful_of c))
+  where
+    by_lawful : (l : Bool) → ok_or (cond l (Some (least_of c)) None) (refusal 15) ≡ cond l (Ok (least_of c)) (Err (refusal 15))
+    by_lawful true = refl
+    by_lawful false = refl
 
 -- the cluster's number is 0 exactly for a lawful one, and else a refusal's
 pub fault-none : (c : Config) → lawful_of c ≡ true → cluster_fault c ≡ 0
@@ -300,46 +366,15 @@ fault-lawful c = by_lawful (lawful_of c) refl
     by_lawful true e = eq-eqb (cluster_fault c) 0 (fault-none c e)
     by_lawful false e = ne_eqb (cluster_fault c) 0 (λ z. omega (arith, z, (fault-some c e).0))
 
--- ---- the least weight, where a cluster is lawful
-
--- it is not 0
-pub least-if-told : (c : Config) → (least_if c ≡ 0 → ⊥) → (lawful_of c ≡ true) × (least_if c ≡ least_of c)
-unfolding least_if
-least-if-told c some = by_lawful (lawful_of c) refl
-  where
-    by_lawful : (t : Bool) → lawful_of c ≡ t → (lawful_of c ≡ true) × (least_if c ≡ least_of c)
-    by_lawful true e = (e, rw e refl)
-    by_lawful false e = absurd (some (rw e refl))
-
--- and where it is not lawful, it is
-pub least-if-none : (c : Config) → least_if c ≡ 0 → lawful_of c ≡ false
-unfolding least_if least_of
-least-if-none c none = test-false (lawful_of c) (λ l. let z = rw l at none in omega (arith, z))
-
-pub least-if-fault : (c : Config) → lawful_of c ≡ false → least_if c ≡ 0
-unfolding least_if
-least-if-fault c e = rw e refl
-
--- the least weight, or what is wrong
-pub least-answer : (c : Config) → (least_if c ≡ 0 → ⊥) → Number.Value (least_if c) ≡ least_answer c
-unfolding least_answer
-least-answer c some = let t = least-if-told c some in ap Number.Value t.1 ∙ sym (judged-lawful c _ Number.Refused t.0)
-
-pub least-answer-none : (c : Config) → least_if c ≡ 0 → Number.Refused (why_of c) ≡ least_answer c
-unfolding least_answer
-least-answer-none c none =
-    let no = least-if-none c none in
-    ap Number.Refused (why-fault c no) ∙ sym (judged-fault c _ Number.Refused no)
-
--- ---- the same from what is found of the first n
+-- ---- the least weight, from what is found of the first n
 
 module _ (c : Config) (v : valid_of c ≡ true) (first : First) (f : Firsts c.starts c.n first) where
   total-found : first.total ≡ total_of c
   unfolding total_of start_of
   total-found = f.total-is
 
-  pub least-beyond : (sum 16 (start_of c) ≡ first.total → ⊥) → 0 ≡ least_if c
-  least-beyond ne = sym (least-if-fault c (test-false (lawful_of c) (λ l. ne (total-all c v (lawful-told c l).ends ∙ sym total-found))))
+  pub least-beyond : (sum 16 (start_of c) ≡ first.total → ⊥) → lawful_of c ≡ false
+  least-beyond ne = test-false (lawful_of c) (λ l. ne (total-all c v (lawful-told c l).ends ∙ sym total-found))
 
   -- the least of them, beside the least weight
   lowest-above : least_of c ≤ 65535 → starts_above c ≡ leb (least_of c) first.lowest
@@ -350,8 +385,8 @@ module _ (c : Config) (v : valid_of c ≡ true) (first : First) (f : Firsts c.st
   unfolding least_of
   least-is = ap (λ x. x / (2 * (c.n - c.f)) + 1) total-found
 
-  pub least-found : sum 16 (start_of c) ≡ first.total → least_by c.n c.f first.total first.lowest ≡ least_if c
-  unfolding least_by least_if lawful_of
+  pub least-found : sum 16 (start_of c) ≡ first.total → least_by c.n c.f first.total first.lowest ≡ cond (lawful_of c) (Some (least_of c)) None
+  unfolding least_by lawful_of
   least-found all_are =
       ⊎_elim
       (λ (few : first.total ≤ 16000).

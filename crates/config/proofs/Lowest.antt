@@ -20,3 +20,7 @@ leb-min b x y =
     (le-or-lt b y))
     (λ (h : x < b). rw (lt-leb b x h) (lt-leb b (min x y) (omega arith)))
     (le-or-lt b x)
+
+-- the same, with the last of the two looked at first
+pub leb-min-last : (b x y : ℕ) → leb b (min x y) ≡ cond (leb b y) (leb b x) false
+leb-min-last b x y = let e : min x y ≡ min y x = omega arith in rw e (leb-min b y x)

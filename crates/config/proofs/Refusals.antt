@@ -9,7 +9,7 @@ use lib.Dec.{leb}
 use lib.ListN.{get_or, get_or-map}
 use Rattle.quorums.proofs.Tests.{le-or-lt, chosen-first}
 use Rattle.config.specs.Refusals.{number_of, refusals, most_refusal, refusal, meaning}
-use Rattle.config.specs.declared.answer.Meaning.{Meaning}
+use Rattle.std.specs.Prelude.{Some, None}
 use Rattle.config.specs.declared.answer.Refusal.{Refusal}
 use Rattle.config.specs.declared.answer.Refusal.TheVariants.{BadHouse, Torn, BadMap, OddField, Light, Clash, Stray, Busy, Idle, Thin, BadTransfer, Spent, Narrow, Long, BadStart}
 
@@ -38,7 +38,7 @@ number-back k p l =
 -- ---- what a number stands for
 
 -- a refusal's number stands for it
-pub meaning-number : (r : Refusal) → meaning (number_of r) ≡ Meaning.Refusal r
+pub meaning-number : (r : Refusal) → meaning (number_of r) ≡ Some r
 unfolding meaning
 meaning-number BadHouse = refl
 meaning-number Torn = refl
@@ -57,15 +57,15 @@ meaning-number Long = refl
 meaning-number BadStart = refl
 
 -- every number from 1 to the largest stands for its refusal
-pub meaning-refusal : (k : ℕ) → 1 ≤ k → k ≤ most_refusal → meaning k ≡ Meaning.Refusal (refusal k)
+pub meaning-refusal : (k : ℕ) → 1 ≤ k → k ≤ most_refusal → meaning k ≡ Some (refusal k)
 unfolding meaning
 meaning-refusal k p l = rw (le-leb 1 k p, le-leb k most_refusal l) refl
 
-none-not-refusal : (r : Refusal) → Meaning.None ≡ Meaning.Refusal r → ⊥
+none-not-refusal : (r : Refusal) → None ≡ Some r → ⊥
 none-not-refusal r e = let z : ◌≡◌ {A = ℕ} 0 1 = cc in omega arith
 
 -- and what stands for a refusal is its number
-pub meaning-told : (k : ℕ) (r : Refusal) → meaning k ≡ Meaning.Refusal r → (r ≡ refusal k) × (number_of r ≡ k) × (1 ≤ k) × (k ≤ most_refusal)
+pub meaning-told : (k : ℕ) (r : Refusal) → meaning k ≡ Some r → (r ≡ refusal k) × (number_of r ≡ k) × (1 ≤ k) × (k ≤ most_refusal)
 unfolding meaning
 meaning-told k r e =
     let some = chosen-first (leb 1 k) _ _ _ (none-not-refusal r) e in
@@ -76,7 +76,7 @@ meaning-told k r e =
     (is, ap number_of is ∙ number-back k p l, p, l)
 
 -- 0, and what is above the largest, stands for none, and nothing else does
-pub meaning-none : (k : ℕ) → (meaning k ≡ Meaning.None) ↔ ((k ≡ 0) ⊎ (most_refusal < k))
+pub meaning-none : (k : ℕ) → (meaning k ≡ None) ↔ ((k ≡ 0) ⊎ (most_refusal < k))
 unfolding meaning
 meaning-none k = (
   λ e.

@@ -1,5 +1,5 @@
 -- The cluster's parameters, which are fixed at opening (paper 01, "Sheets": a house has n servers and a crash limit f; paper 02, N2: start weights by hall).
-use Rattle.std.specs.Prelude.{ℕ, ◌+◌, ◌-◌, ◌*◌, ◌/◌, ◌^◌, ◌≤◌, ◌<◌, ◌≡◌, Bool, true, false, cond, List, eqb, leb, ltb, ℤ, pos, length, get_or, replicate}
+use Rattle.std.specs.Prelude.{ℕ, ◌+◌, ◌-◌, ◌*◌, ◌/◌, ◌^◌, ◌≤◌, ◌<◌, ◌≡◌, Bool, true, false, cond, List, eqb, leb, ltb, ℤ, pos, length, get_or, replicate, Option, Some, None}
 use Rattle.quorums.specs.Sum.{sum, all}
 use Rattle.quorums.specs.Tables.{table}
 use Rattle.quorums.specs.Accounts.{above}
@@ -63,15 +63,12 @@ starts_above c = all c.n (λ i. above_of c (pos (start_of c i)))
 unfoldable pub lawful_of : Config → Bool
 lawful_of c = cond (valid_of c) (cond (ends_of c) (cond (leb (total_of c) most_weight) (starts_above c) false) false) false
 
--- the least weight above the floor of a lawful cluster, and 0 of any other
-unfoldable pub least_if : Config → ℕ
-least_if c = cond (lawful_of c) (least_of c) 0
-
--- the same by n and f within bounds and by what n start weights with nothing after them come to: their sum and the least of them
-unfoldable pub least_by : ℕ → ℕ → ℕ → ℕ → ℕ
+-- the least weight above the floor, by n and f within bounds and by what n start weights with nothing after them come to: their sum and the least of them;
+-- none where these are not lawful
+unfoldable pub least_by : ℕ → ℕ → ℕ → ℕ → Option ℕ
 least_by n f total lowest =
     let least = total / (2 * (n - f)) + 1 in
-    cond (leb total most_weight) (cond (leb least lowest) least 0) 0
+    cond (leb total most_weight) (cond (leb least lowest) (Some least) None) None
 
 -- What is wrong with a cluster: 1 for n and f, 15 for the start weights, 0 for nothing.
 unfoldable pub cluster_fault : Config → ℕ

@@ -1,9 +1,6 @@
 -- The number of each refusal (paper 01, "Numbers handed out"; paper 02: 15 from N2), what each number stands for, and what is done after a verdict.
-use Rattle.std.specs.Prelude.{ℕ, ◌-◌, cond, List, [], ◌∷◌, leb, get_or}
+use Rattle.std.specs.Prelude.{ℕ, ◌-◌, Bool, cond, List, [], ◌∷◌, leb, get_or, ℤ, Option, Some, None, Result, Ok, Err}
 use Rattle.config.specs.declared.answer.Refusal.{Refusal}
-use Rattle.config.specs.declared.answer.Meaning.{Meaning}
-use Rattle.config.specs.declared.answer.Verdict.{Verdict}
-use Rattle.config.specs.declared.answer.Verdict.TheVariants.{Accepted, Refused}
 use Rattle.config.specs.declared.answer.Refusal.TheVariants.{BadHouse, Torn, BadMap, OddField, Light, Clash, Stray, Busy, Idle, Thin, BadTransfer, Spent, Narrow, Long, BadStart}
 
 abbrev pub number_of : Refusal → ℕ
@@ -37,10 +34,32 @@ abbrev pub refusal : ℕ → Refusal
 refusal k = get_or refusals (k - 1) BadHouse
 
 -- what a number stands for, at all numbers: the refusal from 1 to the largest, and none for 0 and above
-unfoldable pub meaning : ℕ → Meaning
-meaning k = cond (leb 1 k) (cond (leb k most_refusal) (Meaning.Refusal (refusal k)) Meaning.None) Meaning.None
+unfoldable pub meaning : ℕ → Option Refusal
+meaning k = cond (leb 1 k) (cond (leb k most_refusal) (Some (refusal k)) None) None
+
+-- ---- answers
+
+-- whether a call was accepted
+abbrev pub Verdict : Type 0
+Verdict = Result (Unit {0}) Refusal
+
+-- the answer of a call that was accepted and has nothing more to say
+abbrev pub granted : Verdict
+granted = Ok tt
+
+-- a yes or no
+abbrev pub Decision : Type 0
+Decision = Result Bool Refusal
+
+-- a number that is not negative
+abbrev pub Number : Type 0
+Number = Result ℕ Refusal
+
+-- a signed number
+abbrev pub Signed : Type 0
+Signed = Result ℤ Refusal
 
 -- what is done where a call was accepted, and for a refusal
 abbrev pub by-verdict : {A : Type 0} → Verdict → A → (Refusal → A) → A
-by-verdict Accepted x f = x
-by-verdict (Refused k) x f = f k
+by-verdict (Ok _) x f = x
+by-verdict (Err k) x f = f k

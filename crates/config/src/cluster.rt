@@ -1,12 +1,12 @@
 // The cluster's parameters (paper 01: house; paper 02, N2): how many servers there are, how many may crash, what each weighs at the start, and the floor.
-ghost use Rattle.std.specs.Prelude.{◌≡◌, not, true, ◌≤◌, min, pos, length, get_or};
+ghost use Rattle.std.specs.Prelude.{◌≡◌, not, true, ◌≤◌, pos, length, get_or};
 ghost use Rattle.std.specs.Int.Signed.{lt_z};
 ghost use Rattle.quorums.specs.Sum.{sum};
-ghost use Rattle.config.specs.Cluster.{in_bounds, valid_of, server_of, start_of, lawful_of, least_if, least_by, cluster_fault, why_of, cluster_of, stamp_bytes, most_stamp};
+ghost use Rattle.config.specs.Cluster.{in_bounds, valid_of, server_of, start_of, lawful_of, least_by, why_of, stamp_bytes, most_stamp};
 ghost use Rattle.config.specs.Firsts.{Firsts};
-ghost use Rattle.config.specs.Answers.{decide, start_answer, total_answer, least_answer, above_answer};
+ghost use Rattle.config.specs.Answers.{decide, checked_answer, start_answer, total_answer, least_answer, above_answer};
 
-use super::answer::{Decision, Number, Refusal};
+use super::answer::Refusal;
 
 // Servers 0 to n - 1, of which f may crash, and what each weighs at the start: n start weights, then zeros.
 #[repr(C)]
@@ -25,97 +25,102 @@ pub const MOST_WEIGHT: u64 = 16000;
 
 impl Config {
     // Whether n and f are within bounds.
-    pub fn valid(self) -> bool
-        ensures { result ≡ valid_of self }
+    #[tactic(auto, unfolding(crate::specs::Cluster::valid_of))]
+    pub fn valid(&self) -> bool
+        ensures { result ≡ valid_of self.now }
     {
         in_bounds(self.n, self.f)
     }
 
     // Whether n and f are within bounds and `server` is a server of the cluster.
-    pub fn has(self, server: u64) -> bool
-        ensures { result ≡ server_of self server }
+    #[tactic(auto, unfolding(crate::specs::Cluster::server_of))]
+    pub fn has(&self, server: u64) -> bool
+        ensures { result ≡ server_of self.now server }
     {
-        if !self.valid() {
-            return false;
-        }
-        server < self.n
+        self.valid() && server < self.n
     }
 
     // How many bytes a stamp has in a message.
-    pub fn stamp_bytes(self) -> u64
-        ensures { result ≡ stamp_bytes self }
+    #[tactic(auto, unfolding(crate::specs::Cluster::stamp_bytes))]
+    pub fn stamp_bytes(&self) -> u64
+        ensures { result ≡ stamp_bytes self.now }
     {
         4
     }
 
     // The largest stamp.
-    pub fn most_stamp(self) -> u64
-        ensures { result ≡ most_stamp self }
+    #[tactic(auto, unfolding(crate::specs::Cluster::most_stamp, crate::specs::Cluster::stamp_bytes))]
+    pub fn most_stamp(&self) -> u64
+        ensures { result ≡ most_stamp self.now }
     {
-        4294967295
+        u64::from(u32::MAX)
     }
 
-    // What is wrong: 1 for n and f, 15 for the start weights, 0 for nothing.
-    pub fn fault(self) -> u64
-        ensures { result ≡ cluster_fault self }
+    // What is wrong: 1 for n and f, 15 for the start weights.
+    #[tactic(auto, unfolding(crate::specs::Answers::checked_answer))]
+    pub fn check(&self) -> Result<(), Refusal>
+        ensures { result ≡ checked_answer self.now }
     {
-        match self.least() {
-            Number::Value(_) => 0,
-            Number::Refused(r) => r.number(),
-        }
+        self.least()?;
+        Ok(())
     }
 
     // Whether nothing is wrong.
-    pub fn lawful(self) -> bool
-        ensures { result ≡ lawful_of self }
+    pub fn lawful(&self) -> bool
+        ensures { result ≡ lawful_of self.now }
     {
-        self.fault() == 0
+        self.least().is_ok()
     }
 
     // The start weight of a server.
-    pub fn start(self, server: u64) -> Number
-        ensures { result ≡ start_answer self server }
+    #[tactic(auto, unfolding(crate::specs::Answers::start_answer))]
+    pub fn start(&self, server: u64) -> Result<u64, Refusal>
+        ensures { result ≡ start_answer self.now server }
     {
         if !self.has(server) {
-            return Number::Refused(Refusal::BadHouse);
+            return Err(Refusal::BadHouse);
         }
-        if !self.lawful() {
-            return Number::Refused(Refusal::BadStart);
-        }
-        Number::Value(self.start_at(server))
+        self.check()?;
+        Ok(self.start_at(server))
     }
 
-    // The same with no test, and 0 where there is no such server, for loops over the servers of a cluster that has passed.
-    pub fn start_at(self, server: u64) -> u64
-        ensures { (result ≡ start_of self server) × (result ≤ 65535) }
+    // The same with no test, and 0 where there is no such server, for calls whose cluster has passed.
+    #[tactic(auto, unfolding(crate::specs::Cluster::start_of))]
+    pub fn start_at(&self, server: u64) -> u64
+        ensures { (result ≡ start_of self.now server) × (result ≤ 65535) }
     {
-        start_in(&self.starts, server)
+        self.starts
+            .get(server as usize)
+            .copied()
+            .map_or(0, u64::from)
     }
 
     // W: the start weights of all servers together.
-    pub fn total(self) -> Number
-        ensures { result ≡ total_answer self }
+    #[tactic(auto, unfolding(crate::specs::Answers::total_answer))]
+    pub fn total(&self) -> Result<u64, Refusal>
+        ensures { result ≡ total_answer self.now }
     {
-        match self.least() {
-            Number::Value(_) => Number::Value(sum_of(&self.starts) as u64),
-            Number::Refused(r) => Number::Refused(r),
-        }
+        self.least()?;
+        Ok(u64::from(sum_of(&self.starts)))
     }
 
     // The least weight that is above the floor, which is the least that may remain to a server. What is wrong with a cluster is found on the way.
-    pub fn least(self) -> Number
-        ensures { result ≡ least_answer self }
+    pub fn least(&self) -> Result<u64, Refusal>
+        ensures { result ≡ least_answer self.now }
     {
-        let least = least_lent(self.n, self.f, &self.starts);
-        if least == 0 {
-            return Number::Refused(self.refusal());
+        if !self.valid() {
+            return Err(Refusal::BadHouse);
         }
-        Number::Value(least)
+        let first = first_of(&self.starts, self.n as usize);
+        if sum_of(&self.starts) != first.total {
+            return Err(Refusal::BadStart);
+        }
+        least_by(self.n, self.f, first.total, first.lowest).ok_or(Refusal::BadStart)
     }
 
     // Why a cluster is refused that is not lawful: 1 for n and f, 15 for the start weights.
-    pub fn refusal(self) -> Refusal
-        ensures { result ≡ why_of self }
+    pub fn refusal(&self) -> Refusal
+        ensures { result ≡ why_of self.now }
     {
         if self.valid() {
             return Refusal::BadStart;
@@ -124,135 +129,76 @@ impl Config {
     }
 
     // Whether a weight is above the floor: weight × 2 × (n − f) > W.
-    pub fn above_floor(self, weight: i64) -> Decision
-        ensures { result ≡ above_answer self weight }
+    #[tactic(auto, unfolding(crate::specs::Answers::above_answer))]
+    pub fn above_floor(&self, weight: i64) -> Result<bool, Refusal>
+        ensures { result ≡ above_answer self.now weight }
     {
-        match self.least() {
-            Number::Value(least) => at_least(weight, least),
-            Number::Refused(r) => Decision::Refused(r),
-        }
+        let least = self.least()?;
+        Ok(at_least(weight, least))
     }
 }
 
 // Whether n and f are within bounds.
-pub(crate) fn in_bounds(n: u64, f: u64) -> bool
+fn in_bounds(n: u64, f: u64) -> bool
     ensures { result ≡ in_bounds n f }
 {
-    if n < 1 {
-        return false;
-    }
-    if MOST_SERVERS < n {
-        return false;
-    }
-    if n <= f {
-        return false;
-    }
-    2 * f < n
+    1 <= n && n <= MOST_SERVERS && f < n && 2 * f < n
 }
 
 // Whether a weight is no less than another.
-fn at_least(weight: i64, least: u64) -> Decision
+fn at_least(weight: i64, least: u64) -> bool
     requires { least ≤ 16001 }
-    ensures { result ≡ decide (not (lt_z weight (pos least))) }
+    ensures { result ≡ not (lt_z weight (pos least)) }
 {
-    if weight < least as i64 {
-        return Decision::No;
-    }
-    Decision::Yes
+    least as i64 <= weight
 }
 
-// One of 16 start weights, or 0.
-fn start_in(starts: &[u16], server: u64) -> u64
-    requires { length starts.now ≡ 16 }
-    ensures { (result ≡ get_or starts.now server 0) × (result ≤ 65535) }
-{
-    if MOST_SERVERS <= server {
-        return 0;
-    }
-    wide(starts[server as usize]) as u64
-}
-
-// The least weight above the floor of a cluster whose start weights are lent, wherever they lie; 0, which is no such weight, where it is not lawful. What tests
-// a cluster and goes on with that weight calls this: a copy of the cluster and an answer in memory would take a good part of the time of the test.
-pub fn least_lent(n: u64, f: u64, starts: &[u16; 16]) -> u64
-    ensures { result ≡ least_if (cluster_of n f starts.now) }
-{
-    if !in_bounds(n, f) {
-        return 0;
-    }
-    let first = first_of(starts, n as usize);
-    if sum_of(starts) != first.total {
-        return 0;
-    }
-    least_by(n, f, first.total, first.lowest)
-}
-
-// The same by the sum and the least of n start weights, after which there is nothing: 0 where the sum passes 16,000 or the least isn't above the floor.
-pub(crate) fn least_by(n: u64, f: u64, total: u32, lowest: u32) -> u64
+// The least weight above the floor, by the sum and the least of n start weights, after which there is nothing: none where the sum passes 16,000 or the least
+// isn't above the floor.
+#[tactic(auto, unfolding(crate::specs::Cluster::least_by))]
+fn least_by(n: u64, f: u64, total: u32, lowest: u16) -> Option<u64>
     requires { in_bounds n f ≡ true }
     ensures { result ≡ least_by n f total lowest }
 {
-    let total = total as u64;
+    let total = u64::from(total);
     if MOST_WEIGHT < total {
-        return 0;
+        return None;
     }
     let least = total / (2 * (n - f)) + 1;
-    if (lowest as u64) < least {
-        return 0;
+    if u64::from(lowest) < least {
+        return None;
     }
-    least
+    Some(least)
 }
 
 // The sum and the least of the first n of 16 start weights.
 #[derive(Clone, Copy)]
 struct First {
     pub total: u32,
-    pub lowest: u32,
+    pub lowest: u16,
 }
 
-fn first_of(starts: &[u16], n: usize) -> First
-    requires { (length starts.now ≡ 16) × (n ≤ 16) }
+fn first_of(starts: &[u16; 16], n: usize) -> First
+    requires { n ≤ 16 }
     ensures { Firsts starts.now n result }
 {
     let mut total: u32 = 0;
-    let mut lowest: u32 = 65535;
-    let mut i: usize = 0;
-    while i < n {
-        let start = wide(starts[i]);
-        total += start;
-        lowest = lower(start, lowest);
-        i += 1;
+    let mut lowest = u16::MAX;
+    for start in &starts[..n] {
+        total += u32::from(*start);
+        lowest = lowest.min(*start);
     }
     First { total, lowest }
 }
 
-pub(crate) fn lower(a: u32, b: u32) -> u32
-    ensures { result ≡ min a b }
-{
-    if a < b {
-        return a;
-    }
-    b
-}
-
 // The sum of all 16 start weights, which is that of the first n where there is nothing after them. It looks at all of them, so that a compiler can add
 // several at once.
-fn sum_of(starts: &[u16]) -> u32
-    requires { length starts.now ≡ 16 }
+fn sum_of(starts: &[u16; 16]) -> u32
     ensures { (result ≡ sum 16 (λ i. get_or starts.now i 0)) × (result ≤ 1048560) }
 {
     let mut total: u32 = 0;
-    let mut i: usize = 0;
-    while i < 16 {
-        total += wide(starts[i]);
-        i += 1;
+    for start in starts {
+        total += u32::from(*start);
     }
     total
-}
-
-// A number at a wider type, with its bound.
-fn wide(x: u16) -> u32
-    ensures { (result ≡ x) × (result ≤ 65535) }
-{
-    x as u32
 }

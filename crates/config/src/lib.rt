@@ -5,6 +5,6 @@ mod answer;
 mod cluster;
 mod list;
 
-pub use answer::{Decision, Meaning, Number, Refusal, Signed, Verdict};
-pub use cluster::{Config, MOST_SERVERS, MOST_WEIGHT, least_lent};
-pub use list::ConfigAnswer;
+pub use answer::Refusal;
+pub use cluster::{Config, MOST_SERVERS, MOST_WEIGHT};
+pub use list::Lawful;

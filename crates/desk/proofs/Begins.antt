@@ -1,17 +1,16 @@
 -- Begin and drop keep a desk one that passes the record test, and one that a call can have. A refusal leaves it as it was; after an accepted begin the
--- operation runs, and after an accepted drop there is none. Neither changes anything but the round and the operation, so that a call on the parts of a
--- desk hands back those.
+-- operation runs, and after an accepted drop there is none. Neither changes anything but the round and the operation.
+use Rattle.std.specs.Prelude.{Err}
 use Prim.Native.Nat.{ℕ, suc, ◌≤◌, ◌<◌}
 use native.Mathlib.Omega.{arith}
-use mathlib.Core.Path.{◌≡◌, refl, sym, ap₂, ◌∙◌}
+use mathlib.Core.Path.{◌≡◌, refl, sym, ◌∙◌}
 use mathlib.Core.Bool.{Bool, true, false, cond}
 use mathlib.Core.List.{List}
 use borrow.Author.Tests.{eqb-true, leb-true, ltb-true, lt-leb, le-leb, eq-eqb}
 use lib.Dec.{eqb, ltb}
 use lib.ListN.{length, get_or}
-use Rattle.config.specs.Refusals.{refusal}
+use Rattle.config.specs.Refusals.{refusal, granted}
 use Rattle.config.specs.declared.answer.Refusal.{Refusal}
-use Rattle.config.specs.declared.answer.Verdict.{Verdict}
 use Rattle.ledger.proofs.Checks.{accepted-not-refused}
 use Rattle.message.specs.Cursors.{within}
 use Rattle.replica.specs.declared.value.Value.{Value}
@@ -21,8 +20,8 @@ use Rattle.replica.proofs.Registers.{start-typed, start_fits}
 use Rattle.desk.specs.declared.record.Desk.{Desk}
 use Rattle.desk.specs.declared.record.DeskAnswer.{DeskAnswer}
 use Rattle.desk.specs.Operations.{running, reading, writing, no_operation, begun_operation, phase_lawful}
-use Rattle.desk.specs.Desks.{most_round, fits, accepted, refused, Typed}
-use Rattle.desk.specs.Begins.{begun, start_of, begin_of, dropped, drop_of, turned_of, answer_of, begun_of}
+use Rattle.desk.specs.Desks.{most_round, fits, accepted, refused, turned, Typed}
+use Rattle.desk.specs.Begins.{begun, start_of, begin_of, dropped, drop_of}
 use Rattle.desk.proofs.Operations.{told-operation, mode-later, kind_fits, none-answered, none-fits, none-typed}
 use Rattle.desk.proofs.Desks.{fits_told, told-fits, fits-valid}
 
@@ -62,50 +61,35 @@ drop-cases P x refuses accepts = by_tests (fits x) (eqb x.operation.mode running
 
 -- ---- what a verdict tells
 
-pub begin-refused : (x : Desk) (kind : ℕ) (v : List ℕ) (note : ℕ) (k : Refusal) → (begin_of x kind v note).verdict ≡ Verdict.Refused k
+pub begin-refused : (x : Desk) (kind : ℕ) (v : List ℕ) (note : ℕ) (k : Refusal) → (begin_of x kind v note).verdict ≡ Err k
     → (begin_of x kind v note).desk ≡ x
 begin-refused x kind v note k =
-    begin-cases (λ (a : DeskAnswer). a.verdict ≡ Verdict.Refused k → a.desk ≡ x) x kind v note (λ n e. refl) (λ l r e. accepted-not-refused k e)
+    begin-cases (λ (a : DeskAnswer). a.verdict ≡ Err k → a.desk ≡ x) x kind v note (λ n e. refl) (λ l r e. accepted-not-refused k e)
 
-pub drop-refused : (x : Desk) (k : Refusal) → (drop_of x).verdict ≡ Verdict.Refused k → (drop_of x).desk ≡ x
+pub drop-refused : (x : Desk) (k : Refusal) → (drop_of x).verdict ≡ Err k → (drop_of x).desk ≡ x
 drop-refused x k =
-    drop-cases (λ (a : DeskAnswer). a.verdict ≡ Verdict.Refused k → a.desk ≡ x) x (λ n e. refl) (λ m e. accepted-not-refused k e)
+    drop-cases (λ (a : DeskAnswer). a.verdict ≡ Err k → a.desk ≡ x) x (λ n e. refl) (λ m e. accepted-not-refused k e)
 
-pub begin-runs : (x : Desk) (kind : ℕ) (v : List ℕ) (note : ℕ) → (begin_of x kind v note).verdict ≡ Verdict.Accepted
+pub begin-runs : (x : Desk) (kind : ℕ) (v : List ℕ) (note : ℕ) → (begin_of x kind v note).verdict ≡ granted
     → ((begin_of x kind v note).desk ≡ begun x kind (value_of v) note) × (length v ≤ 64)
 begin-runs x kind v note =
-    begin-cases (λ (a : DeskAnswer). a.verdict ≡ Verdict.Accepted → (a.desk ≡ begun x kind (value_of v) note) × (length v ≤ 64)) x kind v note
+    begin-cases (λ (a : DeskAnswer). a.verdict ≡ granted → (a.desk ≡ begun x kind (value_of v) note) × (length v ≤ 64)) x kind v note
     (λ n e. accepted-not-refused n (sym e)) (λ l r e. (refl, leb-true (length v) 64 (sym (value-fits v) ∙ l)))
 
-pub drop-idle : (x : Desk) → (drop_of x).verdict ≡ Verdict.Accepted → ((drop_of x).desk.operation ≡ no_operation) × (x.operation.mode ≡ running)
+pub drop-idle : (x : Desk) → (drop_of x).verdict ≡ granted → ((drop_of x).desk.operation ≡ no_operation) × (x.operation.mode ≡ running)
 drop-idle x =
-    drop-cases (λ (a : DeskAnswer). a.verdict ≡ Verdict.Accepted → (a.desk.operation ≡ no_operation) × (x.operation.mode ≡ running)) x
+    drop-cases (λ (a : DeskAnswer). a.verdict ≡ granted → (a.desk.operation ≡ no_operation) × (x.operation.mode ≡ running)) x
     (λ n e. accepted-not-refused n (sym e)) (λ m e. (refl, m))
 
 -- ---- the parts that change
 
--- an operation that may begin does so before the last round
-pub begin-early : (x : Desk) (kind : ℕ) (v : List ℕ) (note : ℕ) → (begin_of x kind v note).verdict ≡ Verdict.Accepted → x.round < most_round
-begin-early x kind v note =
-    begin-cases (λ (a : DeskAnswer). a.verdict ≡ Verdict.Accepted → x.round < most_round) x kind v note
-    (λ n e. accepted-not-refused n (sym e)) (λ l r e. r)
+-- Nothing else changes: the record with the round and the operation that a call leaves is the record that it leaves.
 
--- and what a begin changes follows from its verdict
-pub begin-parts : (x : Desk) (kind : ℕ) (v : List ℕ) (note : ℕ) (w : Verdict) (value : Value) → w ≡ (begin_of x kind v note).verdict → value ≡ value_of v
-    → begun_of w kind value note x.round x.operation ≡ turned_of (begin_of x kind v note)
-unfolding begun_of
-begin-parts x kind v note w value p q =
-    ap₂ (λ (b : Verdict) (u : Value). begun_of b kind u note x.round x.operation) p q
-    ∙ begin-cases (λ (a : DeskAnswer). begun_of a.verdict kind (value_of v) note x.round x.operation ≡ turned_of a) x kind v note
-    (λ k. refl) (λ l r. refl)
+pub begin-whole : (x : Desk) (kind : ℕ) (v : List ℕ) (note : ℕ) → let y = (begin_of x kind v note).desk in turned x y.round y.operation ≡ y
+begin-whole x kind v note = begin-cases (λ (a : DeskAnswer). turned x a.desk.round a.desk.operation ≡ a.desk) x kind v note (λ k. refl) (λ l r. refl)
 
--- Nothing else changes: the record with the round and the operation that a call turned is the record that it hands back.
-
-pub begin-whole : (x : Desk) (kind : ℕ) (v : List ℕ) (note : ℕ) → answer_of x (turned_of (begin_of x kind v note)) ≡ begin_of x kind v note
-begin-whole x kind v note = begin-cases (λ (a : DeskAnswer). answer_of x (turned_of a) ≡ a) x kind v note (λ k. refl) (λ l r. refl)
-
-pub drop-whole : (x : Desk) → answer_of x (turned_of (drop_of x)) ≡ drop_of x
-drop-whole x = drop-cases (λ (a : DeskAnswer). answer_of x (turned_of a) ≡ a) x (λ k. refl) (λ m. refl)
+pub drop-whole : (x : Desk) → let y = (drop_of x).desk in turned x y.round y.operation ≡ y
+drop-whole x = drop-cases (λ (a : DeskAnswer). turned x a.desk.round a.desk.operation ≡ a.desk) x (λ k. refl) (λ m. refl)
 
 -- ---- a desk stays one
 
@@ -191,3 +175,9 @@ pub begin-busy : (x : Desk) (kind : ℕ) (v : List ℕ) (note : ℕ) → fits x 
     → begin_of x kind v note ≡ refused (refusal 8) x
 unfolding begin_of start_of
 begin-busy x kind v note f l m = rw (f, value-fits v ∙ le-leb (length v) 64 l, eq-eqb x.operation.mode running m) refl
+
+-- an operation that may begin does so before the last round
+pub begin-early : (x : Desk) (kind : ℕ) (v : List ℕ) (note : ℕ) → (begin_of x kind v note).verdict ≡ granted → x.round < most_round
+begin-early x kind v note =
+    begin-cases (λ (a : DeskAnswer). a.verdict ≡ granted → x.round < most_round) x kind v note
+    (λ n e. accepted-not-refused n (sym e)) (λ l r e. r)

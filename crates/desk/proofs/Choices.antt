@@ -1,5 +1,5 @@
 -- The register that phase 1 chooses: one that a desk may hold, with a tag that is not below the one that was held.
-use Prim.Native.Nat.{ℕ, suc, ◌≤◌, ◌<◌}
+use Prim.Native.Nat.{suc, ◌≤◌, ◌<◌}
 use native.Mathlib.Omega.{arith}
 use mathlib.Core.Path.{◌≡◌, refl}
 use mathlib.Core.Bool.{Bool, true, false, cond, true≢false}
@@ -7,14 +7,13 @@ use borrow.Author.Tests.{eq-eqb, ne_eqb, eqb-true, lt-ltb, le-ltb, ltb-true, ltb
 use lib.Dec.{eqb}
 use Rattle.quorums.proofs.Tests.{chosen-second}
 use Rattle.config.specs.Cluster.{stamp_bytes, most_stamp}
-use Rattle.config.specs.declared.cluster.Config.{Config}
 use Rattle.replica.specs.declared.register.Register.{Register}
 use Rattle.replica.specs.Registers.{below, register_fits, Typed as TypedRegister}
 use Rattle.replica.proofs.Registers.{tagged-fits}
 use Rattle.desk.specs.declared.record.Desk.{Desk}
 use Rattle.desk.specs.Operations.{writing}
 use Rattle.desk.specs.Desks.{fits, Typed}
-use Rattle.desk.specs.Hears.{no_stamp_in, no_stamp, chosen_of}
+use Rattle.desk.specs.Hears.{no_stamp, chosen_of}
 use Rattle.desk.proofs.Operations.{operation-told}
 use Rattle.desk.proofs.Desks.{fits_told, number-told}
 
@@ -31,12 +30,13 @@ chosen-either P x r w h = by-test (eqb x.operation.kind writing) refl
     by-test false e = h
 
 -- a write has a stamp left
-has-stamp : (c : Config) (kind : ℕ) (r : Register) → no_stamp_in c kind r ≡ false → kind ≡ writing → r.stamp < most_stamp c
-has-stamp c kind r e w = ltb-true r.stamp (most_stamp c) (not-false _ (rw (eq-eqb kind writing w) at e))
+has-stamp : (x : Desk) (r : Register) → no_stamp x r ≡ false → x.operation.kind ≡ writing → r.stamp < most_stamp x.config
+unfolding no_stamp
+has-stamp x r e w = ltb-true r.stamp (most_stamp x.config) (not-false _ (rw (eq-eqb x.operation.kind writing w) at e))
 
-pub stamp-left : (c : Config) (kind : ℕ) (r : Register) → no_stamp_in c kind r ≡ false → kind ≡ writing → r.stamp < 4294967295
+pub stamp-left : (x : Desk) (r : Register) → no_stamp x r ≡ false → x.operation.kind ≡ writing → r.stamp < 4294967295
 unfolding most_stamp stamp_bytes
-stamp-left c kind r e w = has-stamp c kind r e w
+stamp-left x r e w = has-stamp x r e w
 
 written-fits : (x : Desk) (r : Register) → fits x ≡ true → r.stamp < most_stamp x.config → register_fits x.config (written x r) ≡ true
 written-fits x r e left =
@@ -50,16 +50,14 @@ written-fits x r e left =
 
 pub chosen-fits : (x : Desk) (r : Register) → fits x ≡ true → no_stamp x r ≡ false → register_fits x.config r ≡ true
     → register_fits x.config (chosen_of x r) ≡ true
-unfolding no_stamp
 chosen-fits x r e s h =
-    chosen-either (λ g. register_fits x.config g ≡ true) x r (λ w. written-fits x r e (has-stamp x.config x.operation.kind r s w)) h
+    chosen-either (λ g. register_fits x.config g ≡ true) x r (λ w. written-fits x r e (has-stamp x r s w)) h
 
 pub chosen-typed : (x : Desk) (r : Register) → Typed x → fits x ≡ true → no_stamp x r ≡ false → TypedRegister r → TypedRegister (chosen_of x r)
-unfolding no_stamp
 chosen-typed x r t e s h =
     chosen-either TypedRegister x r
     (λ w. record {
-      stamp-fits = stamp-left x.config x.operation.kind r s w;
+      stamp-fits = stamp-left x r s w;
       desk-fits = (number-told x.number (fits_told x e).number_in).1;
       value-typed = t.operation-typed.value-typed;
     })

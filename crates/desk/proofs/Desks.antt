@@ -9,8 +9,7 @@ use Rattle.quorums.proofs.Tests.{both}
 use Rattle.config.specs.Cluster.{House, config_of, no_config, house_fault, valid_of, lawful_of, Typed as TypedConfig}
 use Rattle.config.proofs.Clusters.{lawful-valid}
 use Rattle.config.proofs.Houses.{none-typed as no-config-typed, given-typed, house-told}
-use Rattle.config.specs.Refusals.{refusal}
-use Rattle.config.specs.declared.answer.Verdict.{Verdict}
+use Rattle.config.specs.Refusals.{refusal, granted}
 use Rattle.ledger.proofs.Checks.{accepted-not-refused}
 use Rattle.replica.specs.declared.replica.Replica.{Replica}
 use Rattle.replica.specs.Replicas.{fits as fits_replica}
@@ -46,7 +45,7 @@ pub replica-valid : (c : Config) (r : Replica) → fits_replica c r ≡ true →
 replica-valid c r e = lawful-valid c (replica-told c r e).lawful
 
 -- so what is not about the replica may be tested before it
-pub sound-first : (x : Desk) → fits x ≡ cond (sound x.config x.number x.round x.operation) (fits_replica x.config x.replica) false
+pub sound-first : (x : Desk) → fits x ≡ cond (sound x) (fits_replica x.config x.replica) false
 unfolding fits sound
 sound-first x =
     by_tests (number_lawful x.number) (valid_of x.config) (fits_replica x.config x.replica)
@@ -61,29 +60,22 @@ sound-first x =
     by_tests true false false o h = refl
     by_tests false v r o h = refl
 
--- and the replica before the rest
-pub replica-first : (x : Desk) → fits x ≡ cond (fits_replica x.config x.replica) (sound x.config x.number x.round x.operation) false
-replica-first x = sound-first x ∙ by_tests (sound x.config x.number x.round x.operation) (fits_replica x.config x.replica)
-  where
-    by_tests : (s r : Bool) → cond s r false ≡ cond r s false
-    by_tests true true = refl
-    by_tests true false = refl
-    by_tests false true = refl
-    by_tests false false = refl
+pub unsound-unfit : (x : Desk) → sound x ≡ false → fits x ≡ false
+unsound-unfit x e = rw (sound-first x, e) refl
 
-pub record Sound (c : Config) (d round : ℕ) (o : Operation) : Type 0 where
-  pub number_in : number_lawful d ≡ true
-  pub valid : valid_of c ≡ true
-  pub operation-fits : fits_operation c round o ≡ true
+pub record Sound (x : Desk) : Type 0 where
+  pub number_in : number_lawful x.number ≡ true
+  pub valid : valid_of x.config ≡ true
+  pub operation-fits : fits_operation x.config x.round x.operation ≡ true
 
-pub sound-told : (c : Config) (d round : ℕ) (o : Operation) → sound c d round o ≡ true → Sound c d round o
+pub sound-told : (x : Desk) → sound x ≡ true → Sound x
 unfolding sound
-sound-told c d round o e =
-    let n = both (number_lawful d) _ e in
-    let v = both (valid_of c) _ n.1 in
+sound-told x e =
+    let n = both (number_lawful x.number) _ e in
+    let v = both (valid_of x.config) _ n.1 in
     record { number_in = n.0; valid = v.0; operation-fits = v.1 }
 
-pub fits-sound : (x : Desk) → fits x ≡ true → sound x.config x.number x.round x.operation ≡ true
+pub fits-sound : (x : Desk) → fits x ≡ true → sound x ≡ true
 fits-sound x e = (both _ _ (sym (sound-first x) ∙ e)).0
 
 -- its cluster is one, and its number is a desk's
@@ -112,11 +104,11 @@ opens-told : (c : Config) (d : ℕ) → opens c d ≡ true → (number_lawful d 
 unfolding opens
 opens-told c d e = both (number_lawful d) (valid_of c) e
 
-pub open-fits : (h : House) (d : ℕ) → (open_of h d).verdict ≡ Verdict.Accepted → fits (open_of h d).desk ≡ true
+pub open-fits : (h : House) (d : ℕ) → (open_of h d).verdict ≡ granted → fits (open_of h d).desk ≡ true
 unfolding open_of
 open-fits h d e = by_tests (opens (config_of h) d) (lawful_of (config_of h)) refl refl e
   where
-    by_tests : (b l : Bool) → opens (config_of h) d ≡ b → lawful_of (config_of h) ≡ l → (opened h d b l).verdict ≡ Verdict.Accepted → fits (opened h d b l).desk ≡ true
+    by_tests : (b l : Bool) → opens (config_of h) d ≡ b → lawful_of (config_of h) ≡ l → (opened h d b l).verdict ≡ granted → fits (opened h d b l).desk ≡ true
     by_tests true true o v t =
         let k = opens-told (config_of h) d o in
         told-fits (fresh_desk (config_of h) d)

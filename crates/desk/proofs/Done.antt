@@ -1,5 +1,6 @@
 -- Every other input is accepted (demand 1): a call whose input fails none of the paper's tests is accepted, and does what the paper says. The limits are
 -- written out here, so that a test which refuses before its limit has no such law.
+use Rattle.std.specs.Prelude.{Ok}
 use Prim.Native.Nat.{ℕ, ◌≤◌, ◌<◌}
 use mathlib.Core.Path.{◌≡◌, refl, ◌∙◌}
 use mathlib.Core.Bool.{Bool, true, false, cond}
@@ -7,7 +8,7 @@ use mathlib.Core.List.{List}
 use borrow.Author.Tests.{eq-eqb, ne_eqb, lt-ltb, le-leb}
 use lib.Dec.{eqb}
 use lib.ListN.{length}
-use Rattle.config.specs.declared.answer.Verdict.{Verdict}
+use Rattle.config.specs.Refusals.{granted}
 use Rattle.ledger.specs.Weights.{quorum_of}
 use Rattle.ledger.specs.Joins.{lacks}
 use Rattle.message.specs.declared.envelope.Envelope.{Envelope}
@@ -43,12 +44,7 @@ module _ (x : Desk) (f : fits x ≡ true) where
   -- result: an operation has ended
   pub result-done : x.operation.mode ≡ 2
       → result_of x
-      ≡ record {
-        verdict = Verdict.Accepted;
-        kind = x.operation.kind;
-        register = trimmed x.operation.chosen;
-        restarts = x.operation.restarts;
-      }
+      ≡ Ok (record { kind = x.operation.kind; register = trimmed x.operation.chosen; restarts = x.operation.restarts })
   unfolding result_of
   result-done m = rw (f, eq-eqb x.operation.mode ended m) refl
 
@@ -70,12 +66,12 @@ module _ (x : Desk) (p : Replica) (l : x.round < 4294967295) where
   unfolding choose_of
   choose-done s = rw (lt-ltb x.round most_round l, s) refl
 
-  mark-done : (i : ℕ) → no_stamp x p.register ≡ false → (mark_of x p i).hearing ≡ Hearing.Accepted
+  mark-done : (i : ℕ) → no_stamp x p.register ≡ false → (mark_of x p i).hearing ≡ Ok Hearing.Taken
   unfolding mark_of
   mark-done i s = rw (choose-done s) (by_tests (quorum_of x.config p.ledger (marked x.operation.answered i)) (eqb x.operation.phase 1))
     where
       by_tests : (q b : Bool)
-          → (cond q (cond b (heard (chose x p)) (heard (finished x p))) (heard (waiting x p i))).hearing ≡ Hearing.Accepted
+          → (cond q (cond b (heard (chose x p)) (heard (finished x p))) (heard (waiting x p i))).hearing ≡ Ok Hearing.Taken
       by_tests true true = refl
       by_tests true false = refl
       by_tests false b = refl
@@ -94,23 +90,23 @@ module _ (x : Desk) (e : Envelope) (r : Replica) (h : Heeded x e r) where
   unfolding clashes
   no-clash = rw h.joining h.all_known
 
-  fields-done : x.round < 4294967295 → no_stamp x (join x.replica r).register ≡ false → (hear_fields x e r).hearing ≡ Hearing.Accepted
+  fields-done : x.round < 4294967295 → no_stamp x (join x.replica r).register ≡ false → (hear_fields x e r).hearing ≡ Ok Hearing.Taken
   unfolding hear_fields
   fields-done l s =
       rw (not-stray, in-time, no-clash, restart-done x (join x.replica r) l) (by-test (lacks x.replica.ledger r.ledger))
     where
       by-test : (b : Bool)
-          → (cond b (heard (restarted x (join x.replica r))) (mark_of x (join x.replica r) e.server)).hearing ≡ Hearing.Accepted
+          → (cond b (heard (restarted x (join x.replica r))) (mark_of x (join x.replica r) e.server)).hearing ≡ Ok Hearing.Taken
       by-test true = refl
       by-test false = mark-done x (join x.replica r) l e.server s
 
 -- A reply to this desk, of the round of the operation that runs, which joins and lacks no transfer of the desk's, is taken before the last round, where a
 -- write finds a stamp left.
 pub hear-done : (x : Desk) (msg : List ℕ) → fits x ≡ true
-    → (receive_of x.config msg).verdict ≡ Verdict.Accepted
+    → (receive_of x.config msg).verdict ≡ granted
     → Heeded x (receive_of x.config msg).envelope (receive_of x.config msg).replica
     → x.round < 4294967295
     → no_stamp x (join x.replica (receive_of x.config msg).replica).register ≡ false
-    → (hear_of x msg).hearing ≡ Hearing.Accepted
+    → (hear_of x msg).hearing ≡ Ok Hearing.Taken
 unfolding hear_of
 hear-done x msg f a h l s = rw (f, a) (fields-done x (receive_of x.config msg).envelope (receive_of x.config msg).replica h l s)

@@ -1,5 +1,6 @@
 -- Hear keeps a desk one that passes the record test, and one that a call can have. A refusal and "late" leave it as it was; after an accepted hear it
 -- has all that it and the reply had.
+use Rattle.std.specs.Prelude.{Ok, Err}
 use Prim.Native.Nat.{ℕ, suc, ◌≤◌, ◌<◌, ◌^◌}
 use native.Mathlib.Nat.{pow-le-pow_right}
 use native.Mathlib.Omega.{arith}
@@ -212,9 +213,9 @@ hear-typed x msg b t e =
 
 -- ---- what is not accepted changes nothing
 
-hear-unchanged : (x : Desk) (msg : List ℕ) → ((hear_of x msg).hearing ≡ Hearing.Accepted → ⊥) → (hear_of x msg).desk ≡ x
+hear-unchanged : (x : Desk) (msg : List ℕ) → ((hear_of x msg).hearing ≡ Ok Hearing.Taken → ⊥) → (hear_of x msg).desk ≡ x
 hear-unchanged x msg =
-    hear-cases (λ (h : Heard). (h.hearing ≡ Hearing.Accepted → ⊥) → h.desk ≡ x) x (λ k n. refl) msg (λ n. refl)
+    hear-cases (λ (h : Heard). (h.hearing ≡ Ok Hearing.Taken → ⊥) → h.desk ≡ x) x (λ k n. refl) msg (λ n. refl)
     (λ f a s. record {
       restarts = λ r n. absurd (n refl);
       chooses = λ r d n. absurd (n refl);
@@ -222,11 +223,18 @@ hear-unchanged x msg =
       waits = λ q n. absurd (n refl);
     })
 
-pub hear-refused : (x : Desk) (msg : List ℕ) (k : Refusal) → (hear_of x msg).hearing ≡ Hearing.Refused k → (hear_of x msg).desk ≡ x
+pub hear-refused : (x : Desk) (msg : List ℕ) (k : Refusal) → (hear_of x msg).hearing ≡ Err k → (hear_of x msg).desk ≡ x
 hear-refused x msg k e = hear-unchanged x msg (λ d. let z : ◌≡◌ {A = ℕ} 0 1 = cc in omega arith)
 
-pub hear-late : (x : Desk) (msg : List ℕ) → (hear_of x msg).hearing ≡ Hearing.Late → (hear_of x msg).desk ≡ x
+pub hear-late : (x : Desk) (msg : List ℕ) → (hear_of x msg).hearing ≡ Ok Hearing.Late → (hear_of x msg).desk ≡ x
 hear-late x msg e = hear-unchanged x msg (λ d. let z : ◌≡◌ {A = ℕ} 0 1 = cc in omega arith)
+
+-- ---- and nothing changes the cluster or the number: the record with the pair, the round and the operation that hear leaves is the record that it leaves
+
+pub hear-whole : (x : Desk) (msg : List ℕ) → let y = (hear_of x msg).desk in moved x y.replica y.round y.operation ≡ y
+hear-whole x msg =
+    hear-cases (λ (h : Heard). moved x h.desk.replica h.desk.round h.desk.operation ≡ h.desk) x (λ k. refl) msg refl
+    (λ f a s. record { restarts = λ l. refl; chooses = λ l n. refl; finishes = refl; waits = λ q. refl })
 
 -- ---- what is accepted loses nothing
 
@@ -236,12 +244,12 @@ chose-grows x p a g =
     record { counts = g.counts; cells = g.cells; all_known = g.all_known; tag = chosen-above x p.register a.register g.tag }
 
 -- the desk then has all that it and the reply had, transfers and tags
-pub hear-grows : (x : Desk) (msg : List ℕ) → (hear_of x msg).hearing ≡ Hearing.Accepted
+pub hear-grows : (x : Desk) (msg : List ℕ) → (hear_of x msg).hearing ≡ Ok Hearing.Taken
     → Grows x.replica (hear_of x msg).desk.replica × Grows (receive_of x.config msg).replica (hear_of x msg).desk.replica
 hear-grows x msg =
     let r = (receive_of x.config msg).replica in
     let p = join x.replica r in
-    hear-cases (λ (h : Heard). h.hearing ≡ Hearing.Accepted → Grows x.replica h.desk.replica × Grows r h.desk.replica) x
+    hear-cases (λ (h : Heard). h.hearing ≡ Ok Hearing.Taken → Grows x.replica h.desk.replica × Grows r h.desk.replica) x
     (λ k d. let z : ◌≡◌ {A = ℕ} 0 1 = cc in absurd (omega arith)) msg (λ d. let z : ◌≡◌ {A = ℕ} 0 1 = cc in absurd (omega arith))
     (λ f a s.
     let left = grows-left x.config x.replica r s.joining in

@@ -1,4 +1,5 @@
 -- What hearing a message comes to: it is refused, or late, or it is a reply that does one of four things.
+use Rattle.std.specs.Prelude.{Ok, Err}
 use Prim.Native.Nat.{ℕ, ◌<◌}
 use mathlib.Core.Path.{◌≡◌, refl}
 use mathlib.Core.Bool.{Bool, true, false, cond, true≢false}
@@ -6,10 +7,9 @@ use mathlib.Core.List.{List}
 use borrow.Author.Tests.{eqb-true, ltb-true, not-false}
 use lib.Dec.{eqb, ltb}
 use Rattle.quorums.proofs.Tests.{both, chosen-first}
-use Rattle.config.specs.Refusals.{by-verdict, refusal}
+use Rattle.config.specs.Refusals.{by-verdict, refusal, granted}
 use Rattle.config.specs.declared.answer.Refusal.{Refusal}
-use Rattle.config.specs.declared.answer.Verdict.{Verdict}
-use Rattle.config.specs.declared.answer.Verdict.TheVariants.{Accepted, Refused}
+use Rattle.config.specs.Refusals.{Verdict}
 use Rattle.ledger.specs.Weights.{quorum_of}
 use Rattle.ledger.specs.Joins.{lacks}
 use Rattle.message.specs.declared.envelope.Envelope.{Envelope}
@@ -109,7 +109,7 @@ module _ (P : Heard → Type 0) (x : Desk) (refuses : (k : Refusal) → P (refus
   pub hear-cases : (msg : List ℕ)
       → P (late x)
       → (fits x ≡ true
-      → (receive_of x.config msg).verdict ≡ Verdict.Accepted
+      → (receive_of x.config msg).verdict ≡ granted
       → Heeded x (receive_of x.config msg).envelope (receive_of x.config msg).replica
       → Does P x (join x.replica (receive_of x.config msg).replica) (receive_of x.config msg).envelope.server)
       → P (hear_of x msg)
@@ -124,6 +124,6 @@ module _ (P : Heard → Type 0) (x : Desk) (refuses : (k : Refusal) → P (refus
 
       by_tests : (f : Bool) (w : Verdict) → fits x ≡ f → (receive_of x.config msg).verdict ≡ w
           → P (cond f (by-verdict w (hear_fields x e r) (λ k. refused k x)) (refused (refusal 1) x))
-      by_tests true Accepted h a = fields-cases e r lates (takes h a)
-      by_tests true (Refused k) h a = refuses k
+      by_tests true (Ok _) h a = fields-cases e r lates (takes h a)
+      by_tests true (Err k) h a = refuses k
       by_tests false w h a = refuses (refusal 1)

@@ -1,6 +1,6 @@
 -- Laws: operations and desks, the published rule of a desk's record, begin and drop, requests, results, and hearing a reply. `Marks` is for the map of the
 -- servers that answered, `Choices` for what phase 1 chooses, `Heeded` for what hearing a message comes to, `Margins` for what is told of the weight that has
--- answered, `Told` for what answers tell, `Done` for what is accepted, `Hearings` for hear on the parts of a record, `Answers` for what that hands back.
+-- answered, `ToldLemmas` for what answers tell, `Done` for what is accepted, `Hearings` for hear step by step.
 pub mod Operations
 pub mod Desks
 pub mod Published
@@ -15,4 +15,3 @@ pub mod ToldLemmas
 pub mod Hears
 pub mod Done
 pub mod Hearings
-pub mod Answers

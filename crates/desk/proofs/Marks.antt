@@ -1,4 +1,8 @@
 -- A map with one server more names that server and those that it named, and stays a map of the cluster.
+use Rattle.std.specs.Int.Bits.{bit_or, bit_and, or_add_and}
+use Rattle.std.proofs.lemmas.Nat.{or_disjoint}
+use Rattle.std.proofs.lemmas.Nat.Bits.{and_pow}
+use Rattle.std.specs.Int.{bit_at}
 use Prim.Native.Nat.{ℕ, zero, suc, ◌+◌, ◌/◌, ◌%◌, ◌^◌, ◌≤◌, ◌<◌}
 use native.Mathlib.Omega.{arith}
 use mathlib.Core.Path.{◌≡◌, refl, sym, ap, ◌∙◌}
@@ -87,3 +91,18 @@ marked-small n m i l h = by-test (named m i) refl
 pub marked-map : (c : Config) (m i : ℕ) → i < c.n → map_of c m ≡ true → map_of c (marked m i) ≡ true
 unfolding map_of
 marked-map c m i l e = let v = map-valid c m e in rw v.0 (lt-ltb (marked m i) (2 ^ c.n) (marked-small c.n m i l v.1))
+
+-- the bit of server i or-ed in
+pub marked-or : (m i : ℕ) → bit_or m (2 ^ i) ≡ marked m i
+unfolding marked named
+marked-or m i = by-test (eqb (m / 2 ^ i % 2) 1) refl
+  where
+    by-test : (b : Bool) → eqb (m / 2 ^ i % 2) 1 ≡ b → bit_or m (2 ^ i) ≡ cond b m (m + 2 ^ i)
+    by-test true e =
+        let own : bit_at m i ≡ 1 = eqb-true (m / 2 ^ i % 2) 1 e in
+        let both : bit_and m (2 ^ i) ≡ 2 ^ i = rw (and_pow, own) (omega arith) in
+        omega (arith, both, or_add_and m (2 ^ i))
+    by-test false e =
+        let none : bit_at m i ≡ 0 = omega (arith, eqb-false (m / 2 ^ i % 2) 1 e) in
+        let both : bit_and m (2 ^ i) ≡ 0 = rw (and_pow, none) (omega arith) in
+        or_disjoint m (2 ^ i) both

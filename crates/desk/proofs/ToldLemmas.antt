@@ -1,14 +1,14 @@
 -- What the answers of the parts of a call tell: of a join, and of hear at each of its tests.
+use Rattle.std.specs.Prelude.{Err}
 use Prim.Native.Nat.{ℕ}
 use mathlib.Core.Path.{◌≡◌, refl}
 use mathlib.Core.Bool.{Bool, true, false, cond, not}
 use mathlib.Core.List.{List}
-use Rattle.config.specs.Refusals.{refusal}
+use Rattle.config.specs.Refusals.{refusal, granted}
 use Rattle.config.specs.declared.answer.Refusal.{Refusal}
-use Rattle.config.specs.declared.answer.Verdict.{Verdict}
 use Rattle.ledger.specs.Joins.{lacks}
 use Rattle.message.specs.declared.envelope.Envelope.{Envelope}
-use Rattle.message.specs.declared.answer.Received.{Received}
+use Rattle.message.specs.Answers.{Received}
 use Rattle.replica.specs.declared.replica.Replica.{Replica}
 use Rattle.replica.specs.Replicas.{joinable, join}
 use Rattle.message.specs.Answers.{receive_of}
@@ -71,10 +71,10 @@ module _ (x : Desk) (msg : List ℕ) where
 
   -- y is what the message says
   module _ (y : Received) (f : fits x ≡ true) (d : y ≡ receive_of x.config msg) where
-    pub hear-taken : y.verdict ≡ Verdict.Accepted → hear_of x msg ≡ hear_fields x y.envelope y.replica
+    pub hear-taken : y.verdict ≡ granted → hear_of x msg ≡ hear_fields x y.envelope y.replica
     unfolding hear_of
     hear-taken v = rw (← d, f, v) refl
 
-    pub hear-untaken : (k : Refusal) → y.verdict ≡ Verdict.Refused k → hear_of x msg ≡ refused k x
+    pub hear-untaken : (k : Refusal) → y.verdict ≡ Err k → hear_of x msg ≡ refused k x
     unfolding hear_of
     hear-untaken k v = rw (← d, f, v) refl

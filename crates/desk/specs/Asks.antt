@@ -1,8 +1,7 @@
 -- Ask server i (paper 01, "Desk"): 9, 1, 13. It writes a request with round and pair, and the operation's note.
-use Rattle.std.specs.Prelude.{ℕ, cond, List, eqb, ltb}
+use Rattle.std.specs.Prelude.{ℕ, cond, List, eqb, ltb, Err}
 use Rattle.config.specs.declared.answer.Refusal.{Refusal}
 use Rattle.config.specs.Refusals.{refusal}
-use Rattle.config.specs.declared.answer.Number.{Number}
 use Rattle.message.specs.declared.envelope.Envelope.{Envelope}
 use Rattle.message.specs.Envelopes.{request, message_of}
 use Rattle.message.specs.Answers.{Written, place}
@@ -19,7 +18,7 @@ request_message x i = message_of x.config (request_envelope x i) x.replica
 
 -- a refusal leaves the buffer as it was
 abbrev pub unwritten : Refusal → List ℕ → Written
-unwritten k out = record { answer = Number.Refused k; out = out }
+unwritten k out = record { answer = Err k; out = out }
 
 unfoldable pub ask_of : Desk → ℕ → List ℕ → ℕ → Written
 ask_of x i out at =

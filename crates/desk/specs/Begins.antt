@@ -1,12 +1,8 @@
 -- Begin and drop (paper 01, "Desk").
 use Rattle.std.specs.Prelude.{ℕ, suc, cond, List, eqb, ltb}
-use Rattle.config.specs.declared.answer.Refusal.{Refusal}
 use Rattle.config.specs.Refusals.{refusal}
-use Rattle.config.specs.declared.answer.Verdict.{Verdict}
 use Rattle.replica.specs.declared.value.Value.{Value}
 use Rattle.replica.specs.Values.{value_fits, value_of}
-use Rattle.desk.specs.declared.operation.Operation.{Operation}
-use Rattle.desk.specs.declared.begin.Turned.{Turned}
 use Rattle.desk.specs.declared.record.Desk.{Desk}
 use Rattle.desk.specs.declared.record.DeskAnswer.{DeskAnswer}
 use Rattle.desk.specs.Operations.{running, no_operation, begun_operation}
@@ -35,21 +31,3 @@ dropped x = turned x x.round no_operation
 unfoldable pub drop_of : Desk → DeskAnswer
 drop_of x =
     cond (fits x) (cond (eqb x.operation.mode running) (accepted (dropped x)) (refused (refusal 9) x)) (refused (refusal 1) x)
-
--- Of what begin and drop hand back, the parts that they change; a refusal leaves them as they were.
-
-abbrev pub turned_of : DeskAnswer → Turned
-turned_of a = record { verdict = a.verdict; round = a.desk.round; operation = a.desk.operation }
-
--- the answer that they make with the rest of the record
-abbrev pub answer_of : Desk → Turned → DeskAnswer
-answer_of x t = record { verdict = t.verdict; desk = turned x t.round t.operation }
-
-abbrev pub unturned : Refusal → ℕ → Operation → Turned
-unturned k round o = record { verdict = Verdict.Refused k; round = round; operation = o }
-
--- what a verdict on a begin comes to: an operation begins in the next round, or all is as it was
-unfoldable pub begun_of : Verdict → ℕ → Value → ℕ → ℕ → Operation → Turned
-begun_of Verdict.Accepted kind value note round o =
-    record { verdict = Verdict.Accepted; round = suc round; operation = begun_operation kind value note }
-begun_of (Verdict.Refused k) kind value note round o = unturned k round o

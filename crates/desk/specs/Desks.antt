@@ -1,10 +1,10 @@
 -- The record of a desk, the record test, and how one is opened.
-use Rattle.std.specs.Prelude.{ℕ, ◌≤◌, ◌<◌, ◌^◌, Bool, false, cond, leb}
+use Rattle.std.specs.Prelude.{ℕ, ◌≤◌, ◌<◌, ◌^◌, Bool, false, cond, leb, Err}
 use Rattle.config.specs.Cluster.{House, config_of, no_config, valid_of, Typed as TypedConfig}
 use Rattle.config.specs.Answers.{judged}
 use Rattle.config.specs.declared.cluster.Config.{Config}
 use Rattle.config.specs.declared.answer.Refusal.{Refusal}
-use Rattle.config.specs.declared.answer.Verdict.{Verdict}
+use Rattle.config.specs.Refusals.{Verdict, granted}
 use Rattle.replica.specs.Replicas.{fresh_replica, fits as fits_replica, Typed as TypedReplica}
 use Rattle.desk.specs.declared.operation.Operation.{Operation}
 use Rattle.desk.specs.declared.record.Desk.{Desk}
@@ -25,16 +25,16 @@ fits x =
     cond (number_lawful x.number) (cond (fits_replica x.config x.replica) (fits_operation x.config x.round x.operation) false) false
 
 -- What of that test is not about the pair and the start weights: the number, n and f, and the operation.
-unfoldable pub sound : Config → ℕ → ℕ → Operation → Bool
-sound c d round o = cond (number_lawful d) (cond (valid_of c) (fits_operation c round o) false) false
+unfoldable pub sound : Desk → Bool
+sound x = cond (number_lawful x.number) (cond (valid_of x.config) (fits_operation x.config x.round x.operation) false) false
 
 -- What a call hands back: a refusal leaves the record as it was.
 
 abbrev pub accepted : Desk → DeskAnswer
-accepted x = record { verdict = Verdict.Accepted; desk = x }
+accepted x = record { verdict = granted; desk = x }
 
 abbrev pub refused : Refusal → Desk → DeskAnswer
-refused k x = record { verdict = Verdict.Refused k; desk = x }
+refused k x = record { verdict = Err k; desk = x }
 
 -- the desk in another round and with another operation
 abbrev pub turned : Desk → ℕ → Operation → Desk
@@ -50,6 +50,10 @@ blank_desk = fresh_desk no_config 0
 -- whether d is a desk's number, and n and f are within bounds
 unfoldable pub opens : Config → ℕ → Bool
 opens c d = cond (number_lawful d) (valid_of c) false
+
+-- what opening answers: 1 for n, f and the number, then 15 for the start weights
+unfoldable pub open_answer : Config → ℕ → Verdict
+open_answer c d = judged (opens c d) c granted Err
 
 -- Open: a fresh record; 1 for n, f and the number, then 15 for the start weights.
 unfoldable pub open_of : House → ℕ → DeskAnswer

@@ -1,8 +1,7 @@
 -- Hear (paper 01, "Desk"): message checks; 7; "late", with nothing changed, if no operation runs or the round isn't the current one; 6, also if the
 -- reply's sheet lacks a transfer of the desk's; 12 if a round or stamp would pass its end.
-use Rattle.std.specs.Prelude.{ℕ, suc, ◌+◌, ◌^◌, Bool, true, false, cond, not, List, eqb, ltb}
+use Rattle.std.specs.Prelude.{ℕ, suc, ◌+◌, ◌^◌, Bool, true, false, cond, not, List, eqb, ltb, Ok, Err}
 use Rattle.config.specs.Cluster.{most_stamp}
-use Rattle.config.specs.declared.cluster.Config.{Config}
 use Rattle.config.specs.Refusals.{by-verdict, refusal}
 use Rattle.config.specs.declared.answer.Refusal.{Refusal}
 use Rattle.ledger.specs.Maps.{named}
@@ -25,29 +24,23 @@ use Rattle.desk.specs.Desks.{most_round, fits}
 -- What the call hands back: a refusal and "late" leave the record as it was.
 
 abbrev pub accepted : Desk → Heard
-accepted x = record { hearing = Hearing.Accepted; desk = x }
+accepted x = record { hearing = Ok Hearing.Taken; desk = x }
 
 abbrev pub late : Desk → Heard
-late x = record { hearing = Hearing.Late; desk = x }
+late x = record { hearing = Ok Hearing.Late; desk = x }
 
 abbrev pub refused : Refusal → Desk → Heard
-refused k x = record { hearing = Hearing.Refused k; desk = x }
+refused k x = record { hearing = Err k; desk = x }
 
 -- ---- the tests
 
--- 7: anything but a reply, or a reply for another desk than d
-abbrev pub stray_from : ℕ → Envelope → Bool
-stray_from d e = cond (eqb e.kind reply) (not (eqb e.desk d)) true
-
+-- 7: anything but a reply, or a reply for another desk
 unfoldable pub stray : Desk → Envelope → Bool
-stray x e = stray_from x.number e
+stray x e = cond (eqb e.kind reply) (not (eqb e.desk x.number)) true
 
 -- an operation runs, and the reply is of its round
-abbrev pub timely_in : ℕ → ℕ → Envelope → Bool
-timely_in mode round e = cond (eqb mode running) (eqb e.round round) false
-
 unfoldable pub timely : Desk → Envelope → Bool
-timely x e = timely_in x.operation.mode x.round e
+timely x e = cond (eqb x.operation.mode running) (eqb e.round x.round) false
 
 -- 6: the pairs don't join, or the reply's sheet lacks a transfer of the desk's
 unfoldable pub clashes : Desk → Replica → Bool
@@ -87,18 +80,12 @@ unfoldable pub marked : ℕ → ℕ → ℕ
 marked m i = cond (named m i) m (m + 2 ^ i)
 
 -- whether a write finds no stamp left above that of r
-abbrev pub no_stamp_in : Config → ℕ → Register → Bool
-no_stamp_in c kind r = cond (eqb kind writing) (not (ltb r.stamp (most_stamp c))) false
-
 unfoldable pub no_stamp : Desk → Register → Bool
-no_stamp x r = no_stamp_in x.config x.operation.kind r
+no_stamp x r = cond (eqb x.operation.kind writing) (not (ltb r.stamp (most_stamp x.config))) false
 
--- what phase 1 chooses, where r is held: a read that one, a write stamp + 1, its own number d and the new value
-abbrev pub chosen_by : ℕ → Operation → Register → Register
-chosen_by d o r = cond (eqb o.kind writing) (record { stamp = suc r.stamp; desk = d; value = o.value }) r
-
+-- what phase 1 chooses, where r is held: a read that one, a write stamp + 1, its own number and the new value
 unfoldable pub chosen_of : Desk → Register → Register
-chosen_of x r = chosen_by x.number x.operation r
+chosen_of x r = cond (eqb x.operation.kind writing) (record { stamp = suc r.stamp; desk = x.number; value = x.operation.value }) r
 
 -- the operation in phase 2, with the chosen register g
 abbrev pub in_phase_two : Operation → Register → Operation

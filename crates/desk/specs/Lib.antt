@@ -6,5 +6,4 @@ pub mod Asks
 pub mod Results
 pub mod Margins
 pub mod Hears
-pub mod Parts
 pub mod Hearings

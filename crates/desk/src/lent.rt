@@ -3,9 +3,11 @@ ghost use Rattle.std.specs.Prelude.{◌≡◌};
 ghost use Rattle.desk.specs.Hears.{hear_of};
 
 use super::record::{Desk, Hearing};
+use config::Refusal;
 
-// Hear on a record that the caller lends and finds changed, or as it was where the reply was late or refused.
-pub fn hear_lent(desk: &mut Desk, msg: &[u8]) -> Hearing
+// Hear on a record that the caller lends and finds changed, or as it was where the reply was late or refused. It calls the hear by value and stores what comes
+// back, which is the form that paper 01 names for it ("Which form belongs where").
+pub fn hear_lent(desk: &mut Desk, msg: &[u8]) -> Result<Hearing, Refusal>
     ensures { (result ≡ (hear_of desk.old msg.now).hearing) × (desk.new ≡ (hear_of desk.old msg.now).desk) }
 {
     let heard = Desk::hear(*desk, msg);

@@ -1,56 +1,35 @@
 // A desk tells how far its operation is from a quorum (paper 02, N1).
 ghost use Rattle.std.specs.Prelude.{◌≡◌};
-ghost use Rattle.desk.specs.Parts.{desk_of};
-ghost use Rattle.desk.specs.Margins.{margin_of};
+ghost use Rattle.desk.specs.Margins.{margin_of, weighed_of};
 
-use super::hear::fits;
-use super::operation::{Operation, RUNNING};
-use super::record::{Desk, sound_in};
-use config::{Config, Refusal, Signed};
-use ledger::weigh_lent;
-use replica::Register;
+use super::operation::RUNNING;
+use super::record::Desk;
+use config::Refusal;
 
 impl Desk {
     // Twice the weight of the servers that answered in this round, on the desk's own sheet, less W: 1 for the record, 9 if no operation runs.
-    pub fn margin(self) -> Signed
-        ensures { result ≡ margin_of self }
+    #[tactic(auto, unfolding(crate::specs::Margins::margin_of, crate::specs::Margins::weighed_of))]
+    pub fn margin(&self) -> Result<i64, Refusal>
+        ensures { result ≡ margin_of self.now }
     {
-        let held = self.replica.register;
-        let operation = self.operation;
-        margin_in(
-            self.config,
-            self.number,
-            &self.replica.ledger.counts,
-            &self.replica.ledger.cells,
-            held,
-            self.round,
-            operation,
-        )
+        let margin = self.weighed(self.operation.answered)?;
+        if self.operation.mode != RUNNING {
+            return Err(Refusal::Idle);
+        }
+        Ok(margin)
     }
-}
 
-// The same of the parts of a record, of which the ledger is lent as its counts and cells. The record test finds the margin.
-fn margin_in<'a>(
-    config: Config,
-    number: u64,
-    counts: &'a [u16; 16],
-    cells: &'a [u32; 256],
-    register: Register,
-    round: u32,
-    operation: Operation,
-) -> Signed
-    ensures { result ≡ margin_of (desk_of config number counts.now cells.now register round operation) }
-{
-    if !sound_in(config, number, round, operation) {
-        return Signed::Refused(Refusal::BadHouse);
+    // The margin of a map of servers on the desk's own sheet: 1 for the record, whose test finds it and has that of the ledger in it.
+    #[tactic(auto, unfolding(crate::specs::Margins::weighed_of))]
+    pub(crate) fn weighed(&self, map: u16) -> Result<i64, Refusal>
+        ensures { result ≡ weighed_of self.now map }
+    {
+        if !self.sound() || !self.replica.register.fits(&self.config) {
+            return Err(Refusal::BadHouse);
+        }
+        self.replica
+            .ledger
+            .weigh(&self.config, map)
+            .or(Err(Refusal::BadHouse))
     }
-    let weighed = weigh_lent(counts, cells, config, operation.answered);
-    let ledger = weighed.verdict;
-    if !fits(ledger, register, config) {
-        return Signed::Refused(Refusal::BadHouse);
-    }
-    if operation.mode != RUNNING {
-        return Signed::Refused(Refusal::Idle);
-    }
-    Signed::Value(weighed.margin)
 }

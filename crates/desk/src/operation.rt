@@ -1,11 +1,11 @@
 // The operation of a desk. Kind, phase and mode are numbers: a record may hold any, and the record test says which ones mean something.
 ghost use Rattle.std.specs.Prelude.{◌≡◌, true};
 ghost use Rattle.config.specs.Cluster.{valid_of};
-ghost use Rattle.ledger.specs.Maps.{map_of};
 ghost use Rattle.desk.specs.Operations.{no_operation, begun_operation, mode_lawful, kind_lawful, phase_lawful, fits as fits_of};
-ghost use Rattle.desk.specs.Hears.{answered_by, in_phase_two, finished_operation};
+ghost use Rattle.desk.specs.Hears.{in_phase_two, finished_operation};
 
 use config::Config;
+use ledger::within;
 use replica::{Register, Value};
 
 // No operation, one that runs, one that has ended and whose result is kept.
@@ -58,30 +58,10 @@ impl Operation {
         Operation {
             mode: RUNNING,
             note,
-            restarts: 0,
             kind,
             phase: 1,
-            answered: 0,
             value,
-            chosen: Register::start(),
-        }
-    }
-
-    // The same operation, with other servers that answered and another number of restarts.
-    pub(crate) fn answered_by(self, map: u16, restarts: u32) -> Operation
-        ensures { result ≡ answered_by self map restarts }
-    {
-        let value = self.value;
-        let chosen = self.chosen;
-        Operation {
-            mode: self.mode,
-            note: self.note,
-            restarts,
-            kind: self.kind,
-            phase: self.phase,
-            answered: map,
-            value,
-            chosen,
+            ..Operation::none()
         }
     }
 
@@ -89,16 +69,12 @@ impl Operation {
     pub(crate) fn in_phase_two(self, chosen: Register) -> Operation
         ensures { result ≡ in_phase_two self chosen }
     {
-        let value = self.value;
         Operation {
             mode: RUNNING,
-            note: self.note,
-            restarts: self.restarts,
-            kind: self.kind,
             phase: 2,
             answered: 0,
-            value,
             chosen,
+            ..self
         }
     }
 
@@ -106,89 +82,56 @@ impl Operation {
     pub(crate) fn finished(self) -> Operation
         ensures { result ≡ finished_operation self }
     {
-        let chosen = self.chosen;
         Operation {
             mode: ENDED,
             note: 0,
-            restarts: self.restarts,
-            kind: self.kind,
             phase: 0,
             answered: 0,
             value: Value::empty(),
-            chosen,
+            ..self
         }
     }
 
     // The part of the record test that is about the operation of a desk in a round. The cluster has passed.
-    pub(crate) fn fits(self, config: Config, round: u32) -> bool
-        requires { valid_of config ≡ true }
-        ensures { result ≡ fits_of config round self }
+    #[tactic(auto, unfolding(crate::specs::Operations::fits))]
+    pub(crate) fn fits(&self, config: &Config, round: u32) -> bool
+        requires { valid_of config.now ≡ true }
+        ensures { result ≡ fits_of config.now round self.now }
     {
-        if !mode_lawful(self.mode, round) {
-            return false;
-        }
-        if !kind_lawful(self.mode, self.kind) {
-            return false;
-        }
-        if !phase_lawful(self.mode, self.phase) {
-            return false;
-        }
-        if !map_lawful(config, self.answered) {
-            return false;
-        }
-        if round < self.restarts {
-            return false;
-        }
-        let value = self.value;
-        if !value.fits() {
-            return false;
-        }
-        let chosen = self.chosen;
-        chosen.fits(config)
+        mode_lawful(self.mode, round)
+            && kind_lawful(self.mode, self.kind)
+            && phase_lawful(self.mode, self.phase)
+            && within(config, self.answered)
+            && self.restarts <= round
+            && self.value.fits()
+            && self.chosen.fits(config)
     }
 }
 
 // Whether a mode is one, and none at round 0.
+#[tactic(auto, unfolding(crate::specs::Operations::mode_lawful))]
 fn mode_lawful(mode: u32, round: u32) -> bool
     ensures { result ≡ mode_lawful mode round }
 {
     if round == 0 {
-        return mode == NONE;
+        mode == NONE
+    } else {
+        mode <= ENDED
     }
-    mode <= ENDED
 }
 
 // Whether a kind is at most 2, and one where there is an operation.
+#[tactic(auto, unfolding(crate::specs::Operations::kind_lawful))]
 fn kind_lawful(mode: u32, kind: u16) -> bool
     ensures { result ≡ kind_lawful mode kind }
 {
-    if WRITE < kind {
-        return false;
-    }
-    if mode == NONE {
-        return true;
-    }
-    READ <= kind
+    kind <= WRITE && (mode == NONE || READ <= kind)
 }
 
 // Whether a phase is at most 2, and 1 or 2 where an operation runs.
+#[tactic(auto, unfolding(crate::specs::Operations::phase_lawful))]
 fn phase_lawful(mode: u32, phase: u16) -> bool
     ensures { result ≡ phase_lawful mode phase }
 {
-    if 2 < phase {
-        return false;
-    }
-    if mode != RUNNING {
-        return true;
-    }
-    1 <= phase
-}
-
-// Whether a map names servers of a valid cluster only.
-fn map_lawful(config: Config, map: u16) -> bool
-    requires { valid_of config ≡ true }
-    ensures { result ≡ map_of config map }
-{
-    let n = config.n as u32;
-    (map as u32) >> n == 0
+    phase <= 2 && (mode != RUNNING || 1 <= phase)
 }

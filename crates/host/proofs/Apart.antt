@@ -1,5 +1,6 @@
 -- No answer is taken for a refusal: a refusal's code is below −1,000,000; every weight that is told is above 0, and every margin (paper 02, N1) lies from
 -- −W to W, where W is at most 16,000.
+use Rattle.std.specs.Prelude.{Ok}
 use Prim.Native.Nat.{ℕ, ◌+◌, ◌*◌, ◌-◌, ◌≤◌, ◌<◌}
 use native.Mathlib.Nat.{mul-le-mul_right}
 use native.Mathlib.Omega.{arith}
@@ -21,7 +22,6 @@ use Rattle.config.specs.Refusals.{number_of}
 use Rattle.config.proofs.Clusters.{lawful-valid, total-small}
 use Rattle.config.specs.declared.cluster.Config.{Config}
 use Rattle.config.specs.declared.answer.Refusal.{Refusal}
-use Rattle.config.specs.declared.answer.Signed.{Signed}
 use Rattle.ledger.specs.Ledgers.{accounts_of, given_of}
 use Rattle.ledger.specs.Weights.{weight_of, weight_answer}
 use Rattle.ledger.proofs.Answers.{signed-not-refused, quorum-number}
@@ -57,7 +57,7 @@ above_zero c l i e =
     (le-or-lt (held (accounts_of c l) i) (given_of l i)))
 
 -- A weight is told of a message that passes, and on its sheet all are above the floor.
-pub weight-above : (c : Config) (server : ℕ) (msg : List ℕ) (w : ℤ) → weight_in c server msg ≡ Signed.Value w → lt_z (pos 0) w ≡ true
+pub weight-above : (c : Config) (server : ℕ) (msg : List ℕ) (w : ℤ) → weight_in c server msg ≡ Ok w → lt_z (pos 0) w ≡ true
 unfolding weight_in weight_answer server_of
 weight-above c server msg w e =
     let passes = chosen-first (eqb (check c msg) 0) _ _ _ (λ d. signed-not-refused _ _ (sym d)) e in
@@ -81,7 +81,7 @@ within-apart c y r valid w e =
     omega (arith, difference-back 0 low.by 0 code (sym low.is ∙ e), low.most, total-small c valid)
 
 -- A margin is told of a message that passes, on whose sheet no weight is negative and all together are W.
-pub quorum-within : (c : Config) (map : ℕ) (msg : List ℕ) (y : ℤ) → quorum_in c map msg ≡ Signed.Value y → (lawful_of c ≡ true) × Within c y
+pub quorum-within : (c : Config) (map : ℕ) (msg : List ℕ) (y : ℤ) → quorum_in c map msg ≡ Ok y → (lawful_of c ≡ true) × Within c y
 unfolding quorum_in
 quorum-within c map msg y e =
     let passes = chosen-first (eqb (check c msg) 0) _ _ _ (λ d. signed-not-refused _ _ (sym d)) e in
@@ -92,11 +92,11 @@ quorum-within c map msg y e =
           (margin-within c (receive_of c msg).replica.ledger map (lawful-valid c valid) (passed-bounded c msg none) (passed-above c msg none)),
     )
 
-pub quorum-apart : (c : Config) (map : ℕ) (msg : List ℕ) (y : ℤ) (r : Refusal) → quorum_in c map msg ≡ Signed.Value y → y ≡ refusal_code r → ⊥
+pub quorum-apart : (c : Config) (map : ℕ) (msg : List ℕ) (y : ℤ) (r : Refusal) → quorum_in c map msg ≡ Ok y → y ≡ refusal_code r → ⊥
 quorum-apart c map msg y r e = let t = quorum-within c map msg y e in within-apart c y r t.0 t.1
 
 -- So it is with a desk's, told of a record that passes its test.
-pub margin-apart : (x : Desk) (y : ℤ) (r : Refusal) → margin_of x ≡ Signed.Value y → y ≡ refusal_code r → ⊥
+pub margin-apart : (x : Desk) (y : ℤ) (r : Refusal) → margin_of x ≡ Ok y → y ≡ refusal_code r → ⊥
 margin-apart x y r e =
     let valid = (holds-told x.config x.replica (fits_told x (margin-told x y e).sound).replica-fits).lawful in
     within-apart x.config y r valid (told-within x y e)

@@ -1,4 +1,5 @@
 -- A message that is written ends within its buffer, so the place after it is a signed number as it is.
+use Rattle.std.specs.Prelude.{Err}
 use Prim.Native.Nat.{ℕ, ◌+◌, ◌<◌}
 use native.Mathlib.Omega.{arith}
 use mathlib.Core.Path.{◌≡◌, refl}
@@ -8,7 +9,6 @@ use lib.ListN.{length}
 use lib.Dec.{eqb, leb, ltb}
 use borrow.Author.Tests.{leb-true}
 use Rattle.config.specs.declared.answer.Refusal.{Refusal}
-use Rattle.config.specs.declared.answer.Number.{Number}
 use Rattle.message.specs.Answers.{fits, Written, place}
 use Rattle.server.specs.declared.record.Server.{Server}
 use Rattle.server.specs.Servers.{fits as fits_server}
@@ -25,7 +25,7 @@ pub record Ends (bound : ℕ) (w : Written) : Type 0 where
 
 -- a test before the write takes nothing from that
 guarded : (bound : ℕ) (b : Bool) (w : Written) (k : Refusal) (out : List ℕ)
-    → (b ≡ true → Ends bound w) → Ends bound (cond b w (record { answer = Number.Refused k; out = out }))
+    → (b ≡ true → Ends bound w) → Ends bound (cond b w (record { answer = Err k; out = out }))
 guarded bound true w k out e = e refl
 guarded bound false w k out e = record { ends = tt }
 

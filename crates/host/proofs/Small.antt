@@ -1,4 +1,5 @@
 -- The numbers of refusals and of seats are small, so that they are signed numbers as they are.
+use Rattle.std.specs.Prelude.{Ok, Err}
 use Prim.Native.Nat.{ℕ, ◌-◌, ◌≤◌, ◌<◌}
 use native.Mathlib.Omega.{arith}
 use mathlib.Core.Path.{◌≡◌, refl, sym, subst}
@@ -12,7 +13,7 @@ use Rattle.config.proofs.Clusters.{value-not-refused}
 use Rattle.config.specs.Refusals.{number_of, most_refusal}
 use Rattle.config.proofs.Refusals.{meaning-number, meaning-told}
 use Rattle.config.specs.declared.answer.Refusal.{Refusal}
-use Rattle.config.specs.declared.answer.Number.{Number}
+use Rattle.config.specs.Refusals.{Number}
 use Rattle.host.specs.Codes.{Within}
 use Rattle.seats.specs.Offers.{free_in, offered, offer_answer}
 use Rattle.format.specs.Bytes.{bit}
@@ -26,7 +27,7 @@ unfolding free_in
 free-most byte = omega (arith, sum-le 8 (λ k. 1 - bit byte k) (λ k. 1) (λ k l. omega arith), sum-const 8 1)
 
 -- a block has at most 512 seats
-pub seats-most : (block : List ℕ) (x : ℕ) → offer_answer block ≡ Number.Value x → x ≤ 512
+pub seats-most : (block : List ℕ) (x : ℕ) → offer_answer block ≡ Ok x → x ≤ 512
 unfolding offer_answer offered
 seats-most block x e =
     let t = chosen-first (leb (length block) 64) _ _ _ (λ d. value-not-refused _ _ (sym d)) e in
@@ -39,9 +40,9 @@ pub seats-within : (block : List ℕ) → Within 9223372036854775808 (offer_answ
 seats-within block = each (offer_answer block) refl
   where
     each : (a : Number) → offer_answer block ≡ a → Within 9223372036854775808 a
-    each (Number.Value x) e = omega (arith, seats-most block x e)
-    each (Number.Refused r) e = tt
+    each (Ok x) e = omega (arith, seats-most block x e)
+    each (Err r) e = tt
 
 -- a bound on what an answer holds
-pub within-value : (bound : ℕ) (a : Number) (x : ℕ) → a ≡ Number.Value x → Within bound a → x < bound
+pub within-value : (bound : ℕ) (a : Number) (x : ℕ) → a ≡ Ok x → Within bound a → x < bound
 within-value bound a x e w = subst (Within bound) e w

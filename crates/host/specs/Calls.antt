@@ -1,5 +1,7 @@
 -- What a C host gets of a server's or a desk's call: the number of its answer, beside all else that the call hands back.
-use Rattle.std.specs.Prelude.{ℕ}
+use Rattle.std.specs.Prelude.{ℕ, pos, Result, Ok, Err}
+use Rattle.config.specs.declared.answer.Refusal.{Refusal}
+use Rattle.replica.specs.Registers.{start_register}
 use Rattle.server.specs.declared.record.ServerAnswer.{ServerAnswer}
 use Rattle.server.specs.Serves.{Outcome}
 use Rattle.desk.specs.declared.record.DeskAnswer.{DeskAnswer}
@@ -9,7 +11,7 @@ use Rattle.host.specs.declared.servers.AnsweredServer.{AnsweredServer}
 use Rattle.host.specs.declared.servers.AnsweredServe.{AnsweredServe}
 use Rattle.host.specs.declared.desks.AnsweredDesk.{AnsweredDesk}
 use Rattle.host.specs.declared.desks.AnsweredResult.{AnsweredResult}
-use Rattle.host.specs.Codes.{verdict_code, hearing_code, done_code, place_code}
+use Rattle.host.specs.Codes.{refusal_code, verdict_code, hearing_code, done_code, place_code}
 
 abbrev pub server_code : ServerAnswer → AnsweredServer
 server_code a = record { answer = verdict_code a.verdict; server = a.server }
@@ -24,5 +26,7 @@ desk_code a = record { answer = verdict_code a.verdict; desk = a.desk }
 abbrev pub heard_code : Heard → AnsweredDesk
 heard_code h = record { answer = hearing_code h.hearing; desk = h.desk }
 
-abbrev pub told_code : Told → AnsweredResult
-told_code t = record { answer = verdict_code t.verdict; restarts = t.restarts; kind = t.kind; register = t.register }
+-- a result; beside a refusal every field is 0
+abbrev pub told_code : Result Told Refusal → AnsweredResult
+told_code (Ok t) = record { answer = pos 0; restarts = t.restarts; kind = t.kind; register = t.register }
+told_code (Err r) = record { answer = refusal_code r; restarts = 0; kind = 0; register = start_register }

@@ -4,7 +4,7 @@ ghost use Rattle.std.specs.Prelude.{◌≡◌, []};
 ghost use Rattle.config.specs.Cluster.{house_of};
 ghost use Rattle.desk.specs.Operations.{reading, writing};
 ghost use Rattle.desk.specs.Desks.{open_of};
-ghost use Rattle.desk.specs.Begins.{begin_of, drop_of, answer_of};
+ghost use Rattle.desk.specs.Begins.{begin_of, drop_of};
 ghost use Rattle.desk.specs.Asks.{ask_of};
 ghost use Rattle.desk.specs.Hears.{hear_of};
 ghost use Rattle.desk.specs.Results.{result_of};
@@ -12,9 +12,8 @@ ghost use Rattle.desk.specs.Margins.{margin_of};
 ghost use Rattle.host.specs.Codes.{number_code, signed_code, hearing_code};
 ghost use Rattle.host.specs.Calls.{desk_code, heard_code, told_code};
 
-use super::code::{of_hearing, of_number, of_signed, of_verdict};
-use desk::{Desk, DeskAnswer, Turned, hear_in, hear_lent};
-use ledger::put_counts;
+use super::code::of_answer;
+use desk::{Desk, DeskAnswer, hear_lent};
 use replica::Register;
 
 // 0, for a reply that came too late 1, or a refusal; and the record changed, or as it was where the answer is not 0.
@@ -23,6 +22,18 @@ use replica::Register;
 pub struct AnsweredDesk {
     pub answer: i64,
     pub desk: Desk,
+}
+
+impl From<DeskAnswer> for AnsweredDesk {
+    ghost from_gives = { λ a r. r ≡ desk_code a };
+
+    fn from(answer: DeskAnswer) -> AnsweredDesk {
+        let DeskAnswer { verdict, desk } = answer;
+        AnsweredDesk {
+            answer: of_answer(verdict),
+            desk,
+        }
+    }
 }
 
 // 0, or a refusal; and the result of an operation: its restarts, its kind (1 read, 2 write), its tag and value. Every field is 0 beside a refusal.
@@ -40,7 +51,7 @@ pub struct AnsweredResult {
 pub extern "C" fn tovridsa_open_desk(n: u64, f: u64, number: u64, starts: &[u64]) -> AnsweredDesk
     ensures { result ≡ desk_code (open_of (house_of n f starts.now) number) }
 {
-    of_desk(Desk::open(n, f, number, starts))
+    AnsweredDesk::from(Desk::open(n, f, number, starts))
 }
 
 // Begins a read, with a note, or 0 for none.
@@ -48,8 +59,12 @@ pub extern "C" fn tovridsa_open_desk(n: u64, f: u64, number: u64, starts: &[u64]
 pub extern "C" fn tovridsa_begin_read(desk: Desk, note: u32) -> AnsweredDesk
     ensures { result ≡ desk_code (begin_of desk reading [] note) }
 {
-    let turned = desk.reading(note);
-    of_turned(desk, turned)
+    let mut desk = desk;
+    let verdict = desk.begin_read_lent(note);
+    AnsweredDesk {
+        answer: of_answer(verdict),
+        desk,
+    }
 }
 
 // Begins a write of a value, with a note, or 0 for none.
@@ -57,8 +72,12 @@ pub extern "C" fn tovridsa_begin_read(desk: Desk, note: u32) -> AnsweredDesk
 pub extern "C" fn tovridsa_begin_write(desk: Desk, note: u32, value: &[u8]) -> AnsweredDesk
     ensures { result ≡ desk_code (begin_of desk writing value.now note) }
 {
-    let turned = desk.writing(note, value);
-    of_turned(desk, turned)
+    let mut desk = desk;
+    let verdict = desk.begin_write_lent(note, value);
+    AnsweredDesk {
+        answer: of_answer(verdict),
+        desk,
+    }
 }
 
 // Writes a request to a server into a buffer from a place on: the place after it.
@@ -66,7 +85,7 @@ pub extern "C" fn tovridsa_begin_write(desk: Desk, note: u32, value: &[u8]) -> A
 pub extern "C" fn tovridsa_ask(desk: Desk, server: u64, out: &mut [u8], at: usize) -> i64
     ensures { (result ≡ number_code (ask_of desk server out.old at).answer) × (out.new ≡ (ask_of desk server out.old at).out) }
 {
-    of_number(desk.ask(server, out, at))
+    of_answer(desk.ask(server, out, at))
 }
 
 // Takes a server's reply.
@@ -74,36 +93,11 @@ pub extern "C" fn tovridsa_ask(desk: Desk, server: u64, out: &mut [u8], at: usiz
 pub extern "C" fn tovridsa_hear(desk: Desk, msg: &[u8]) -> AnsweredDesk
     ensures { result ≡ heard_code (hear_of desk msg.now) }
 {
-    let config = desk.config;
-    let number = desk.number;
-    let register = desk.replica.register;
-    let operation = desk.operation;
-    let mut replica = desk.replica;
-    let mut counts = desk.replica.ledger.counts;
-    let heard = hear_in(
-        config,
-        number,
-        &mut counts,
-        &mut replica.ledger.cells,
-        register,
-        desk.round,
-        operation,
-        msg,
-    );
-    let hearing = heard.hearing;
-    let register = heard.register;
-    let operation = heard.operation;
-    put_counts(&mut replica.ledger.counts, counts);
-    replica.register = register;
+    let mut desk = desk;
+    let hearing = desk.listen(msg);
     AnsweredDesk {
-        answer: of_hearing(hearing),
-        desk: Desk {
-            config,
-            number,
-            replica,
-            round: heard.round,
-            operation,
-        },
+        answer: of_answer(hearing),
+        desk,
     }
 }
 
@@ -112,7 +106,7 @@ pub extern "C" fn tovridsa_hear(desk: Desk, msg: &[u8]) -> AnsweredDesk
 pub extern "C" fn tovridsa_hear_lent(desk: &mut Desk, msg: &[u8]) -> i64
     ensures { (result ≡ hearing_code (hear_of desk.old msg.now).hearing) × (desk.new ≡ (hear_of desk.old msg.now).desk) }
 {
-    of_hearing(hear_lent(desk, msg))
+    of_answer(hear_lent(desk, msg))
 }
 
 // The result of the operation that ended since the last begin.
@@ -120,14 +114,19 @@ pub extern "C" fn tovridsa_hear_lent(desk: &mut Desk, msg: &[u8]) -> i64
 pub extern "C" fn tovridsa_result(desk: Desk) -> AnsweredResult
     ensures { result ≡ told_code (result_of desk) }
 {
-    let told = desk.result();
-    let verdict = told.verdict;
-    let register = told.register;
-    AnsweredResult {
-        answer: of_verdict(verdict),
-        restarts: told.restarts,
-        kind: told.kind as u32,
-        register,
+    match desk.result() {
+        Ok(told) => AnsweredResult {
+            answer: 0,
+            restarts: told.restarts,
+            kind: u32::from(told.kind),
+            register: told.register,
+        },
+        Err(r) => AnsweredResult {
+            answer: of_answer::<()>(Err(r)),
+            restarts: 0,
+            kind: 0,
+            register: Register::start(),
+        },
     }
 }
 
@@ -136,7 +135,7 @@ pub extern "C" fn tovridsa_result(desk: Desk) -> AnsweredResult
 pub extern "C" fn tovridsa_margin(desk: Desk) -> i64
     ensures { result ≡ signed_code (margin_of desk) }
 {
-    of_signed(desk.margin())
+    of_answer(desk.margin())
 }
 
 // Ends the operation that runs without a result.
@@ -144,28 +143,10 @@ pub extern "C" fn tovridsa_margin(desk: Desk) -> i64
 pub extern "C" fn tovridsa_drop(desk: Desk) -> AnsweredDesk
     ensures { result ≡ desk_code (drop_of desk) }
 {
-    let turned = desk.dropping();
-    of_turned(desk, turned)
-}
-
-// A record that a call turned goes straight into the answer: made by way of a `DeskAnswer` it would be copied once more.
-fn of_turned(desk: Desk, turned: Turned) -> AnsweredDesk
-    ensures { result ≡ desk_code (answer_of desk turned) }
-{
-    let verdict = turned.verdict;
+    let mut desk = desk;
+    let verdict = desk.drop_lent();
     AnsweredDesk {
-        answer: of_verdict(verdict),
-        desk: desk.after(turned),
-    }
-}
-
-fn of_desk(answer: DeskAnswer) -> AnsweredDesk
-    ensures { result ≡ desk_code answer }
-{
-    let verdict = answer.verdict;
-    let desk = answer.desk;
-    AnsweredDesk {
-        answer: of_verdict(verdict),
+        answer: of_answer(verdict),
         desk,
     }
 }

@@ -8,9 +8,8 @@ ghost use Rattle.server.specs.Serves.{serve_of};
 ghost use Rattle.host.specs.Codes.{number_code};
 ghost use Rattle.host.specs.Calls.{server_code, served_code};
 
-use super::code::{of_done, of_number, of_verdict, place};
-use ledger::put_counts;
-use server::{Server, ServerAnswer, serve_in};
+use super::code::of_answer;
+use server::{Server, ServerAnswer};
 
 // 0, or a refusal; and the record changed, or as it was where the answer is a refusal.
 #[repr(C)]
@@ -18,6 +17,18 @@ use server::{Server, ServerAnswer, serve_in};
 pub struct AnsweredServer {
     pub answer: i64,
     pub server: Server,
+}
+
+impl From<ServerAnswer> for AnsweredServer {
+    ghost from_gives = { λ a r. r ≡ server_code a };
+
+    fn from(answer: ServerAnswer) -> AnsweredServer {
+        let ServerAnswer { verdict, server } = answer;
+        AnsweredServer {
+            answer: of_answer(verdict),
+            server,
+        }
+    }
 }
 
 // The same of serve; and the place after the reply, or the place given where nothing is written.
@@ -39,7 +50,7 @@ pub extern "C" fn tovridsa_open_server(
 ) -> AnsweredServer
     ensures { result ≡ server_code (open_of (house_of n f starts.now) number) }
 {
-    of_server(Server::open(n, f, number, starts))
+    AnsweredServer::from(Server::open(n, f, number, starts))
 }
 
 // Gives `amount` to `taker`.
@@ -47,7 +58,12 @@ pub extern "C" fn tovridsa_open_server(
 pub extern "C" fn tovridsa_transfer(server: Server, taker: u64, amount: u64) -> AnsweredServer
     ensures { result ≡ server_code (transfer_of server taker amount) }
 {
-    of_server(server.transfer(taker, amount))
+    let mut server = server;
+    let verdict = server.give(taker, amount);
+    AnsweredServer {
+        answer: of_answer(verdict),
+        server,
+    }
 }
 
 // Writes a share into a buffer from a place on: the place after it.
@@ -55,7 +71,7 @@ pub extern "C" fn tovridsa_transfer(server: Server, taker: u64, amount: u64) -> 
 pub extern "C" fn tovridsa_share(server: Server, out: &mut [u8], at: usize) -> i64
     ensures { (result ≡ number_code (share_of server out.old at).answer) × (out.new ≡ (share_of server out.old at).out) }
 {
-    of_number(server.share(out, at))
+    of_answer(server.share(out, at))
 }
 
 // Joins what a request or a share carries, and writes the reply to a request into a buffer from a place on.
@@ -68,43 +84,11 @@ pub extern "C" fn tovridsa_serve(
 ) -> AnsweredServe
     ensures { (result ≡ served_code (serve_of server msg.now out.old at) at) × (out.new ≡ (serve_of server msg.now out.old at).out) }
 {
-    let config = server.config;
-    let number = server.number;
-    let register = server.replica.register;
-    let mut replica = server.replica;
-    let mut counts = server.replica.ledger.counts;
-    let served = serve_in(
-        config,
-        number,
-        &mut counts,
-        &mut replica.ledger.cells,
-        register,
-        msg,
-        out,
-        at,
-    );
-    let answer = served.answer;
-    let register = served.register;
-    put_counts(&mut replica.ledger.counts, counts);
-    replica.register = register;
+    let mut server = server;
+    let answer = server.serve_lent(msg, out, at);
     AnsweredServe {
-        answer: of_done(answer),
-        end: place(answer, at as u64),
-        server: Server {
-            config,
-            number,
-            replica,
-        },
-    }
-}
-
-fn of_server(answer: ServerAnswer) -> AnsweredServer
-    ensures { result ≡ server_code answer }
-{
-    let verdict = answer.verdict;
-    let server = answer.server;
-    AnsweredServer {
-        answer: of_verdict(verdict),
+        answer: of_answer(answer.map(|_| ())),
+        end: answer.unwrap_or(at as u64),
         server,
     }
 }

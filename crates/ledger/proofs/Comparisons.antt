@@ -1,10 +1,11 @@
 -- The comparison row by row is that of the whole ledgers, where both are within bounds: then a row from n on has no transfer, and a row with none has
 -- only cells of 0, so rows that are passed over agree and neither ledger lacks anything in them.
+use Rattle.std.specs.Prelude.{Ok, Err}
 use Prim.Native.Nat.{ℕ, ◌+◌, ◌*◌, ◌/◌, ◌≤◌, ◌<◌, min}
 use native.Mathlib.Omega.{arith}
-use mathlib.Core.Path.{◌≡◌, refl, sym, ap, ◌∙◌}
+use mathlib.Core.Path.{◌≡◌, refl, sym, ◌∙◌}
 use mathlib.Core.Logic.{inl, ⊎_elim}
-use mathlib.Core.Bool.{Bool, true, false, cond, not}
+use mathlib.Core.Bool.{Bool, true, false, cond}
 use borrow.Author.Tests.{le-ltb, le-leb, eq-eqb, eqb-true}
 use lib.Dec.{eqb}
 use lib.ListN.{length}
@@ -15,6 +16,7 @@ use Rattle.config.specs.declared.cluster.Config.{Config}
 use Rattle.ledger.specs.declared.ledger.Ledger.{Ledger}
 use Rattle.ledger.specs.Ledgers.{count_of, cell_of, given_of}
 use Rattle.ledger.specs.Checks.{bounded}
+use Rattle.config.specs.Refusals.{refusal}
 use Rattle.ledger.specs.Joins.{agree, agree_at, row_agrees, row_agrees_at, has_at, lacks, joins, joined, rows_compared, compared_of}
 use Rattle.quorums.proofs.Tests.{one-test}
 use Rattle.ledger.proofs.Rows.{by_rows}
@@ -59,14 +61,6 @@ passed_over true true r h = sym (h refl refl)
 passed_over true false r h = refl
 passed_over false t r h = refl
 
-compared-rows : (n : ℕ) (a b : Ledger) → (rows_compared n a b).joins ≡ all n (row_agrees_at a b)
-unfolding rows_compared
-compared-rows n a b = by-test (all n (row_agrees_at a b)) refl
-  where
-    by-test : (t : Bool) → all n (row_agrees_at a b) ≡ t → (rows_compared n a b).joins ≡ t
-    by-test true e = rw e refl
-    by-test false e = rw e refl
-
 -- in the rows from n on b has nothing that a could lack
 has-rows : (c : Config) (a b : Ledger) → bounded c b ≡ true → all (min c.n 16) (has_at a b) ≡ all 16 (has_at a b)
 has-rows c a b q =
@@ -94,19 +88,10 @@ module _ (c : Config) (a b : Ledger) (p : bounded c a ≡ true) (q : bounded c b
       ∙ all_same 16 _ _ row-whole
       ∙ sym (by_rows (agree_at a b))
 
-  -- they join where their rows do
-  pub compared-joins : (compared_of c.n a b).joins ≡ joins a b
-  unfolding compared_of
-  compared-joins = compared-rows (min c.n 16) a b ∙ rows_agree
-
-  -- and then each lacks what it lacks in those rows
-  pub compared-lacks : joins a b ≡ true → (compared_of c.n a b).lacks ≡ lacks a b
+  -- they join where their rows do, and then each lacks what it lacks in those rows
+  pub compared-whole : compared_of c.n a b ≡ cond (joins a b) (Ok (record { lacks = lacks a b; ahead = lacks b a })) (Err (refusal 6))
   unfolding compared_of rows_compared lacks
-  compared-lacks e = rw (rows_agree ∙ e) (ap not (has-rows c a b q))
-
-  pub compared-ahead : joins a b ≡ true → (compared_of c.n a b).ahead ≡ lacks b a
-  unfolding compared_of rows_compared lacks
-  compared-ahead e = rw (rows_agree ∙ e) (ap not (has-rows c b a p))
+  compared-whole = rw (rows_agree, has-rows c a b q, has-rows c b a p) refl
 
 -- where b lacks nothing of a, b is the union
 pub joined-told : (a b : Ledger) → length b.counts ≡ 16 → length b.cells ≡ 256 → joins a b ≡ true → lacks b a ≡ false → joined a b ≡ b

@@ -15,10 +15,10 @@ use Rattle.quorums.proofs.Tests.{le-or-lt, one-test}
 use Rattle.config.specs.Cluster.{most_weight}
 use Rattle.config.specs.declared.cluster.Config.{Config}
 use Rattle.ledger.specs.declared.ledger.Ledger.{Ledger}
-use Rattle.ledger.specs.Ledgers.{count_of, cell_of, given_of, received_of}
+use Rattle.ledger.specs.Ledgers.{count_of, cell_of, row_of, given_of, received_of}
 use Rattle.ledger.specs.Checks.{may_hold, total_fits, cell_fits, row_fits, bounded}
 use Rattle.ledger.specs.Sums.{under, received_from, row_faults, filled_row, beyond, beyond_from, faults_of}
-use Rattle.ledger.proofs.Rows.{part, in_row}
+use Rattle.ledger.proofs.Rows.{row-cell}
 use Rattle.ledger.proofs.Totals.{bounded-told, told-bounded, cell-placed, cell-outside, total-fits-told, Placed}
 
 -- a sum of 0 has nothing in it
@@ -183,11 +183,11 @@ module _ (c : Config) (l : Ledger) (most : c.n ≤ 16) where
 pub beyond-start : (n : ℕ) (l : Ledger) → 0 ≡ sum n (beyond_from n l)
 beyond-start n l = sym (sum-zero n (beyond_from n l) (λ i h. rw (lt-ltb i n h) refl))
 
-pub beyond-next : (n : ℕ) (l : Ledger) (i rest full got count : ℕ) → n ≤ i → rest ≡ sum i (beyond_from n l) → full ≡ filled_row (λ j. get_or (part l.cells i) j 0)
+pub beyond-next : (n : ℕ) (l : Ledger) (i rest full got count : ℕ) → n ≤ i → rest ≡ sum i (beyond_from n l) → full ≡ filled_row (λ j. get_or (row_of l i) j 0)
     → got ≡ received_from n l i → count ≡ count_of l i → rest + (full + got + count) ≡ sum (i + 1) (beyond_from n l)
 unfolding beyond filled_row
 beyond-next n l i rest full got count h e a b d =
     let here : beyond_from n l i ≡ filled_row (cell_of l i) + received_from n l i + count_of l i = rw (le-ltb i n h) refl in
-    let row : filled_row (λ j. get_or (part l.cells i) j 0) ≡ filled_row (cell_of l i) =
-    ap (λ t. cond t 0 1) (all_same 16 _ _ (λ j k. ap (λ x. eqb x 0) (in_row l.cells i j k))) in
+    let row : filled_row (λ j. get_or (row_of l i) j 0) ≡ filled_row (cell_of l i) =
+    ap (λ t. cond t 0 1) (all_same 16 _ _ (λ j k. ap (λ x. eqb x 0) (row-cell l i j k))) in
     omega (arith, sum-next i (beyond_from n l), here, row)

@@ -1,13 +1,11 @@
 -- What every call keeps: a ledger that a call can have stays one, and a union of ledgers within bounds is within bounds.
 use Prim.Native.Nat.{ℕ, ◌+◌, ◌*◌, ◌/◌, ◌≤◌, ◌<◌}
-use native.Mathlib.Decide.{ℕ_discrete}
 use native.Mathlib.Omega.{arith}
 use mathlib.Core.Path.{◌≡◌, sym, ◌∙◌, subst, subst₂}
 use mathlib.Core.Logic.{⊎_elim}
 use mathlib.Core.Bool.{true}
 use mathlib.Core.List.{List}
-use lib.ListN.{get_or, length, set, length-set, get_or-eq_default}
-use lib.Seq.{get_or-set_same, get_or-set_other}
+use lib.ListN.{get_or, length, length-set, get_or-eq_default}
 use Rattle.quorums.specs.Sum.{all}
 use Rattle.quorums.proofs.Tests.{le-or-lt}
 use Rattle.quorums.proofs.Sums.{all-each, each_all, sum_same}
@@ -17,6 +15,7 @@ use Rattle.ledger.specs.Ledgers.{count_of, cell_of, given_of, Typed}
 use Rattle.ledger.specs.Checks.{may_hold, total_fits, cell_fits, row_fits, bounded}
 use Rattle.ledger.specs.Joins.{joined}
 use Rattle.ledger.specs.Changes.{most_count, added}
+use Rattle.ledger.proofs.Tallies.{set-within}
 use Rattle.ledger.proofs.Totals.{bounded-told, told-bounded}
 use Rattle.ledger.proofs.Unions.{joined-count, joined-cell, joined-lengths, later_first, later_second, later-either}
 
@@ -87,14 +86,6 @@ joined-bounded c a b p q =
 
     t : (all 256 (cell_fits c.n b) ≡ true) × (all 16 (row_fits b) ≡ true)
     t = bounded-told c b q
-
--- a number written within a range leaves a list within it
-set-within : (l : List ℕ) (i v m most : ℕ) → i < length l → ((k : ℕ) → get_or l k 0 ≤ most) → v ≤ most → get_or (set l i v) m 0 ≤ most
-set-within l i v m most h r w = by_place (ℕ_discrete m i)
-  where
-    by_place : Dec (m ≡ i) → get_or (set l i v) m 0 ≤ most
-    by_place (yes e) = rw (e, get_or-set_same l i v 0 h) w
-    by_place (no e) = rw (get_or-set_other l i m v 0 e) (r m)
 
 pub added-typed : (l : Ledger) (i j d : ℕ) → Typed l → i < 16 → j < 16 → count_of l i < most_count → cell_of l i j + d ≤ 4294967295 → Typed (added l i j d)
 unfolding added

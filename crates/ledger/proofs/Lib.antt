@@ -1,12 +1,13 @@
--- Laws. `Lines`, `Maps`, `Joins` and `Summed` serve the functions here; the others are for use above too.
-pub mod Lines
+-- Laws. `Maps`, `Judged`, `Balances`, `Joins` and `Summed` serve the functions here; the others are for use above too.
 pub mod Rows
 pub mod Maps
 pub mod Answers
+pub mod Judged
 pub mod Checks
 pub mod Tallies
 pub mod Written
 pub mod Weights
+pub mod Balances
 pub mod Joins
 pub mod Changes
 pub mod Totals

@@ -1,4 +1,5 @@
 -- What a server can spare: it is small enough for its ledger, and a ledger that fits still does when it is given.
+use Rattle.std.specs.Prelude.{Err}
 use Prim.Native.Nat.{ℕ, ◌+◌, ◌-◌, ◌≤◌, ◌<◌}
 use native.Mathlib.Decide.{ℕ_discrete}
 use native.Mathlib.Omega.{arith}
@@ -13,9 +14,8 @@ use Rattle.quorums.proofs.Sums.{sum-add, sum-zero, sum-rest, all-each, each_all}
 use Rattle.quorums.proofs.Tests.{le-or-lt}
 use Rattle.quorums.proofs.Differences.{difference-less, difference-more}
 use Rattle.quorums.proofs.Weights.{above-grows}
-use Rattle.config.specs.Refusals.{refusal}
+use Rattle.config.specs.Refusals.{refusal, granted}
 use Rattle.config.specs.declared.answer.Refusal.{Refusal}
-use Rattle.config.specs.declared.answer.Verdict.{Verdict}
 use Rattle.config.specs.Cluster.{valid_of, lawful_of, server_of, start_of, total_of, above_of, least_of, most_weight}
 use Rattle.config.specs.declared.cluster.Config.{Config}
 use Rattle.config.proofs.Clusters.{server-valid, lawful-valid, lawful-bounds, total-small, above-least}
@@ -24,7 +24,7 @@ use Rattle.ledger.specs.declared.ledger.Changed.{Changed}
 use Rattle.ledger.specs.Ledgers.{count_of, cell_of, given_of, received_of, accounts_of, refused, accepted, Typed}
 use Rattle.ledger.specs.Weights.{weight_of}
 use Rattle.ledger.specs.Checks.{row_fits, server_above, bounded, above_floor, fits}
-use Rattle.ledger.specs.Changes.{lawful, most_count, spares, added, give_verdict, give_answer, held_answer}
+use Rattle.ledger.specs.Changes.{lawful, most_count, spares, added, give_answer, held_answer}
 use Rattle.ledger.proofs.Totals.{bounded-told, total-fits-told, received-given}
 use Rattle.ledger.proofs.Majorities.{each-above}
 use Rattle.ledger.proofs.Checks.{accepted-not-refused, ledger-told, told-ledger}
@@ -55,6 +55,12 @@ spares-rest c l i d v a h =
     rest x y z m =
         ⊎_elim (λ (k : y + d + z ≤ x). le-leb d _ (omega arith) ∙ sym (le-leb _ _ k)) (λ (k : x < y + d + z). lt-leb d _ (omega arith) ∙ sym (lt-leb _ _ k))
         (le-or-lt (y + d + z) x)
+
+-- the same by numbers that are the server's
+pub rest-told : (c : Config) (l : Ledger) (i d start received given least : ℕ) → valid_of c ≡ true → above_floor c l ≡ true → i < c.n
+    → start ≡ start_of c i → received ≡ received_of l i → given ≡ given_of l i → least ≡ least_of c
+    → (given + least ≤ start + received) × (spares c l i d ≡ leb d (start + received - given - least))
+rest-told c l i d start received given least v a h e f g k = rw (e, f, g, k) (above-told c l i v a h, sym (spares-rest c l i d v a h))
 
 -- No server weighs more than all start weights together, since none is negative and together they weigh that.
 pub weight-small : (c : Config) (l : Ledger) (i : ℕ) → valid_of c ≡ true → bounded c l ≡ true → above_floor c l ≡ true → i < c.n
@@ -155,28 +161,28 @@ add-cases P c l i j d done left =
 
 module _ (c : Config) (l : Ledger) (i j d : ℕ) where
   -- so an accepted transfer has passed them and is added
-  pub add-told : (held_answer c l i j d).verdict ≡ Verdict.Accepted → Adds c l i j d × ((held_answer c l i j d).ledger ≡ added l i j d)
+  pub add-told : (held_answer c l i j d).verdict ≡ granted → Adds c l i j d × ((held_answer c l i j d).ledger ≡ added l i j d)
   add-told =
-      add-cases (λ x. x.verdict ≡ Verdict.Accepted → Adds c l i j d × (x.ledger ≡ added l i j d)) c l i j d (λ g e. (g, refl))
+      add-cases (λ x. x.verdict ≡ granted → Adds c l i j d × (x.ledger ≡ added l i j d)) c l i j d (λ g e. (g, refl))
       (λ k e. accepted-not-refused k (sym e))
 
   -- and a refused one leaves the ledger as it was
-  pub add_left : (r : Refusal) → (held_answer c l i j d).verdict ≡ Verdict.Refused r → (held_answer c l i j d).ledger ≡ l
+  pub add_left : (r : Refusal) → (held_answer c l i j d).verdict ≡ Err r → (held_answer c l i j d).ledger ≡ l
   add_left r =
-      add-cases (λ x. x.verdict ≡ Verdict.Refused r → x.ledger ≡ l) c l i j d (λ g e. accepted-not-refused r e) (λ k e. refl)
+      add-cases (λ x. x.verdict ≡ Err r → x.ledger ≡ l) c l i j d (λ g e. accepted-not-refused r e) (λ k e. refl)
 
-  -- on a ledger that fits the verdict is that of the tests of a transfer
-  pub add-gives : server_of c i ≡ true → lawful_of c ≡ true → fits c l ≡ true → give_verdict c i j d (count_of l i) (spares c l i d) ≡ (held_answer c l i j d).verdict
-  unfolding held_answer give_answer give_verdict
-  add-gives o v f = rw (o, v, f) (by_tests (lawful c i j d) (ltb (count_of l i) most_count) (spares c l i d))
-    where
-      by_tests : (w t p : Bool)
-          → cond w (cond t (cond p Verdict.Accepted (Verdict.Refused (refusal 10))) (Verdict.Refused (refusal 12))) (Verdict.Refused (refusal 11))
-          ≡ (cond w (cond t (cond p (accepted (added l i j d)) (refused (refusal 10) l)) (refused (refusal 12) l)) (refused (refusal 11) l)).verdict
-      by_tests true true true = refl
-      by_tests true true false = refl
-      by_tests true false p = refl
-      by_tests false t p = refl
+-- A transfer that has passed the tests has room: giver and taker are servers, and the amount and its cell are small.
+pub adds-room : (c : Config) (l : Ledger) (i j d : ℕ) → Adds c l i j d → (i < 16) × (j < 16) × (d ≤ most_weight) × (cell_of l i j + d ≤ 4294967295)
+adds-room c l i j d g =
+    let s = server-valid c i g.one_of in
+    let b = ledger-told c l g.sound in
+    let k = lawful-told c i j d g.legal in
+    let most = (lawful-bounds c g.house).most in (
+      omega (arith, most, s.1),
+      omega (arith, most, k.1),
+      spared-small c l i d g.house b.0 b.1 s.1 g.spared,
+      spared_room c l i j d g.house b.0 b.1 s.1 k.1 g.counted g.spared,
+    )
 
 -- A ledger that fits still does, whatever is asked.
 pub add-fits : (c : Config) (l : Ledger) (i j d : ℕ) → Typed l → fits c l ≡ true → fits c (held_answer c l i j d).ledger ≡ true
@@ -191,13 +197,4 @@ add-fits c l i j d t f = add-cases (λ x. fits c x.ledger ≡ true) c l i j d gi
 
 -- And it is still one that a call can have.
 pub add_typed : (c : Config) (l : Ledger) (i j d : ℕ) → Typed l → Typed (held_answer c l i j d).ledger
-add_typed c l i j d t = add-cases (λ x. Typed x.ledger) c l i j d given (λ k. t)
-  where
-    given : Adds c l i j d → Typed (added l i j d)
-    given g =
-        let s = server-valid c i g.one_of in
-        let b = ledger-told c l g.sound in
-        let k = lawful-told c i j d g.legal in
-        let most = (lawful-bounds c g.house).most in
-        added-typed l i j d t (omega (arith, most, s.1)) (omega (arith, most, k.1)) g.counted
-        (spared_room c l i j d g.house b.0 b.1 s.1 k.1 g.counted g.spared)
+add_typed c l i j d t = add-cases (λ x. Typed x.ledger) c l i j d (λ g. let r = adds-room c l i j d g in added-typed l i j d t r.0 r.1 g.counted r.3) (λ k. t)

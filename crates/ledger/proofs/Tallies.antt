@@ -1,5 +1,6 @@
 -- A list of 16 sums to which a number is added at each index in turn.
 use Prim.Native.Nat.{ℕ, ◌+◌, ◌-◌, ◌*◌, ◌≤◌, ◌<◌}
+use native.Mathlib.Decide.{ℕ_discrete}
 use native.Mathlib.Numerals.{add-one}
 use native.Mathlib.Omega.{arith}
 use mathlib.Core.Path.{◌≡◌, refl, sym, ap, ◌∙◌}
@@ -11,8 +12,7 @@ use Rattle.quorums.specs.Sum.{sum}
 use Rattle.quorums.proofs.Tests.{le-or-lt}
 use Rattle.quorums.proofs.Sums.{below_suc, sum-extend, sum-le, sum-const}
 use Rattle.quorums.specs.Tables.{table}
-use Rattle.ledger.specs.Sums.{Sums}
-use Rattle.quorums.proofs.Tables.{is-table, table_same, table-length, table_at}
+use Rattle.quorums.proofs.Tables.{is-table, table_same}
 
 -- ys is xs with f k added at each k below j
 pub record Tallied (f : ℕ → ℕ) (xs ys : List ℕ) (j : ℕ) : Type 0 where
@@ -61,14 +61,14 @@ bounded l most e h k = ⊎_elim (λ (g : 16 ≤ k). rw (get_or-eq_default l 0 (b
     beyond : 16 ≤ k → length l ≤ k
     beyond g = omega (arith, e)
 
+-- a number written within a range leaves a list within it
+pub set-within : (l : List ℕ) (i v m most : ℕ) → i < length l → ((k : ℕ) → get_or l k 0 ≤ most) → v ≤ most → get_or (set l i v) m 0 ≤ most
+set-within l i v m most h r w = by_place (ℕ_discrete m i)
+  where
+    by_place : Dec (m ≡ i) → get_or (set l i v) m 0 ≤ most
+    by_place (yes e) = rw (e, get_or-set_same l i v 0 h) w
+    by_place (no e) = rw (get_or-set_other l i m v 0 e) (r m)
+
 -- n cells come to at most n times the largest
 pub sum-most : (n : ℕ) (f : ℕ → ℕ) → ((k : ℕ) → f k ≤ 4294967295) → sum n f ≤ n * 4294967295
 sum-most n f h = omega (arith, sum-le n f (λ k. 4294967295) (λ k l. h k), sum-const n 4294967295)
-
--- so 16 sums that are each small are small together
-pub sums-small : (f : ℕ → ℕ) → ((k : ℕ) → f k ≤ 68719476720) → Sums 68719476720 (table 16 f)
-sums-small f h =
-    record {
-      size = table-length 16 f;
-      small = bounded (table 16 f) 68719476720 (table-length 16 f) (λ k g. omega (arith, table_at 16 f k g, h k));
-    }

@@ -9,21 +9,20 @@ use lib.Dec.{leb}
 use lib.ListN.{get_or}
 use Rattle.quorums.specs.Sum.{sum, sum_in}
 use Rattle.quorums.specs.Difference.{difference}
-use Rattle.quorums.specs.Accounts.{held, weight, total, margin}
+use Rattle.quorums.specs.Accounts.{held, weight, weight_in, total, margin}
 use Rattle.quorums.proofs.Sums.{sum-none, sum-next, all_same, sum_in-none, sum_in-next, sum_in-same}
-use Rattle.quorums.proofs.Weights.{margin-is}
+use Rattle.quorums.proofs.Weights.{weight_in-is, margin-is}
 use Rattle.config.specs.Cluster.{valid_of, server_of, start_of, total_of, above_of, least_of}
 use Rattle.config.specs.declared.cluster.Config.{Config}
 use Rattle.config.proofs.Clusters.{valid-server, server-small, valid-bounds, above-least}
 use Rattle.ledger.specs.declared.ledger.Ledger.{Ledger}
-use Rattle.ledger.specs.Ledgers.{cell_of, received_of, given_of, accounts_of, Typed}
+use Rattle.ledger.specs.Ledgers.{received_of, given_of, accounts_of}
 use Rattle.ledger.specs.Maps.{named}
-use Rattle.ledger.specs.Weights.{weight_of, margin_of}
+use Rattle.ledger.specs.Weights.{weight_of, all_of, margin_of}
 use Rattle.ledger.specs.Checks.{bounded, above_floor}
 use Rattle.quorums.specs.Tables.{table}
 use Rattle.quorums.proofs.Tables.{table_at}
 use Rattle.ledger.specs.Sums.{accounts_in, all_above, Sums, Weighs, received_from, given_below}
-use Rattle.ledger.proofs.Tallies.{sum-most, sums-small}
 use Rattle.ledger.proofs.Faults.{from_all}
 
 -- ---- as the program computes them
@@ -137,28 +136,30 @@ sums-margin c l m v = margin-by c l m (table 16 (received_of l)) (table 16 (give
     at : (f : ℕ → ℕ) (i : ℕ) → i < c.n → get_or (table 16 f) i 0 ≡ f i
     at f i k = table_at 16 f i (omega (arith, (valid-bounds c v).most))
 
--- The sums of a ledger that a call can have are small.
-pub received-sums : (l : Ledger) → Typed l → Sums 68719476720 (table 16 (received_of l))
-unfolding received_of
-received-sums l t = sums-small (received_of l) (λ i. sum-most 16 (λ j. cell_of l j i) (λ j. t.cell-fits (j * 16 + i)))
-
-pub given-sums : (l : Ledger) → Typed l → Sums 68719476720 (table 16 (given_of l))
-unfolding given_of
-given-sums l t = sums-small (given_of l) (λ i. sum-most 16 (λ j. cell_of l i j) (λ j. t.cell-fits (i * 16 + j)))
+-- The weight of all servers is that on the ledger.
+pub sums-all : (c : Config) (l : Ledger) → valid_of c ≡ true
+    → weight_in c.n (accounts_in c (table 16 (received_of l)) (table 16 (given_of l))) (λ i. true) ≡ all_of c l
+unfolding all_of
+sums-all c l v =
+    weight_in-is c.n _ (λ i. true)
+    ∙ ap₂ difference (sum_in-same c.n (λ i. true) _ _ (λ i k t. ap (λ x. start_of c i + x) (at (received_of l) i k)))
+    (sum_in-same c.n (λ i. true) _ _ (λ i k t. at (given_of l) i k))
+    ∙ sym (weight_in-is c.n (accounts_of c l) (λ i. true))
+  where
+    at : (f : ℕ → ℕ) (i : ℕ) → i < c.n → get_or (table 16 f) i 0 ≡ f i
+    at f i k = table_at 16 f i (omega (arith, (valid-bounds c v).most))
 
 -- ---- by the rows below n
 
 -- The sums of the rows below n are those of all rows, on a ledger within bounds.
 pub weighs : (c : Config) (l : Ledger) (r g : List ℕ) → valid_of c ≡ true → bounded c l ≡ true → r ≡ table 16 (received_from c.n l)
-    → g ≡ table 16 (given_below c.n l) → Sums 68719476720 r → Sums 68719476720 g → Weighs c l r g
+    → g ≡ table 16 (given_below c.n l) → Weighs c l r g
 unfolding given_below
-weighs c l r g v b er eg sr sg =
+weighs c l r g v b er eg =
     let most = (valid-bounds c v).most in
     record {
       takes = λ i h. ap (λ xs. get_or xs i 0) er ∙ table_at 16 _ i (omega arith) ∙ from_all c l most b i (omega arith);
       gives = λ i h. ap (λ xs. get_or xs i 0) eg ∙ table_at 16 _ i (omega arith) ∙ rw (lt-ltb i c.n h) refl;
-      takes-small = sr;
-      gives-small = sg;
     }
 
 -- so every weight is above the floor exactly when every one on the ledger is

@@ -1,7 +1,7 @@
 -- A list that is written from the front, value by value or row by row: a row's part is lent out and comes back between what stood before it and after it.
 use Prim.Native.Nat.{ℕ, ◌+◌, ◌*◌, ◌-◌, ◌≤◌, ◌<◌}
 use native.Mathlib.Omega.{arith}
-use mathlib.Core.Path.{◌≡◌, refl, ◌∙◌}
+use mathlib.Core.Path.{◌≡◌, refl, sym, ◌∙◌}
 use mathlib.Core.Logic.{⊎_elim}
 use mathlib.Core.List.{List, ◌++◌}
 use lib.ListN.{length, get_or, set, take, drop, length-set, length-append, length-take, length-drop, get_or-append}
@@ -54,6 +54,16 @@ written_next {n} {f} {xs} {ys} {i} {v} h l e =
       size = simp length-set h.size;
       done = filled_next f ys i v (omega (arith, h.size)) h.done e;
       left = λ m b. get_or-set_other ys i m v 0 (λ c. omega arith) ∙ h.left m (omega arith);
+    }
+
+-- values that stay as they are
+pub written_kept : {n : ℕ} {f : ℕ → ℕ} {xs ys : List ℕ} {i : ℕ} (k : ℕ) → Written n f xs ys i → i ≤ k → ((m : ℕ) → i ≤ m → m < k → f m ≡ get_or xs m 0)
+    → Written n f xs ys k
+written_kept {i = i} k h l same =
+    record {
+      size = h.size;
+      done = λ m b. ⊎_elim (λ (g : i ≤ m). h.left m g ∙ sym (same m g b)) (λ (g : m < i). h.done m g) (le-or-lt i m);
+      left = λ m b. h.left m (omega arith);
     }
 
 -- one row of 16 more

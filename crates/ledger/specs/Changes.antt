@@ -4,7 +4,6 @@ use Rattle.config.specs.Cluster.{server_of, lawful_of, above_of}
 use Rattle.config.specs.Answers.{judged}
 use Rattle.config.specs.declared.cluster.Config.{Config}
 use Rattle.config.specs.Refusals.{refusal}
-use Rattle.config.specs.declared.answer.Verdict.{Verdict}
 use Rattle.ledger.specs.declared.ledger.Ledger.{Ledger}
 use Rattle.ledger.specs.declared.ledger.Changed.{Changed}
 use Rattle.ledger.specs.Ledgers.{count_of, cell_of, refused, accepted}
@@ -36,12 +35,6 @@ give_answer c l i j d =
     cond (lawful c i j d)
     (cond (ltb (count_of l i) most_count) (cond (spares c l i d) (accepted (added l i j d)) (refused (refusal 10) l)) (refused (refusal 12) l))
     (refused (refusal 11) l)
-
--- the verdict of these tests, from the giver's count and whether it can spare the amount
-unfoldable pub give_verdict : Config → ℕ → ℕ → ℕ → ℕ → Bool → Verdict
-give_verdict c i j d count spared =
-    cond (lawful c i j d) (cond (ltb count most_count) (cond spared Verdict.Accepted (Verdict.Refused (refusal 10))) (Verdict.Refused (refusal 12)))
-    (Verdict.Refused (refusal 11))
 
 -- One transfer more in the ledger of a party's record, where what is wrong with the cluster, the giver or the ledger is all 1; then 11, 12, 10, or the ledger
 -- with the transfer.

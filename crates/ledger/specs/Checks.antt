@@ -1,11 +1,11 @@
 -- Which ledgers a party may hold or send (paper 01: the ranges of "Message bytes", and the floor).
-use Rattle.std.specs.Prelude.{ℕ, ◌*◌, ◌/◌, ◌%◌, Bool, true, false, cond, not, leb, ltb, eqb, get_or}
+use Rattle.std.specs.Prelude.{ℕ, ◌*◌, ◌/◌, ◌%◌, Bool, true, false, cond, not, leb, ltb, eqb, get_or, Err}
 use Rattle.quorums.specs.Sum.{all}
 use Rattle.config.specs.Cluster.{valid_of, above_of, most_weight}
 use Rattle.config.specs.Answers.{judged}
 use Rattle.config.specs.declared.cluster.Config.{Config}
-use Rattle.config.specs.Refusals.{refusal}
-use Rattle.config.specs.declared.answer.Verdict.{Verdict}
+use Rattle.config.specs.Refusals.{refusal, granted}
+use Rattle.config.specs.Refusals.{Verdict}
 use Rattle.ledger.specs.declared.ledger.Ledger.{Ledger}
 use Rattle.ledger.specs.Ledgers.{count_of, given_of}
 use Rattle.ledger.specs.Weights.{weight_of}
@@ -42,14 +42,14 @@ fits c l = cond (bounded c l) (above_floor c l) false
 -- What the calls answer: 1 or 15 for the cluster, 4 for a range, 5 for the floor.
 
 unfoldable pub bounds_answer : Config → Ledger → Verdict
-bounds_answer c l = judged (valid_of c) c (cond (bounded c l) Verdict.Accepted (Verdict.Refused (refusal 4))) Verdict.Refused
+bounds_answer c l = judged (valid_of c) c (cond (bounded c l) granted (Err (refusal 4))) Err
 
 unfoldable pub floor_answer : Config → Ledger → Verdict
-floor_answer c l = judged (valid_of c) c (cond (above_floor c l) Verdict.Accepted (Verdict.Refused (refusal 5))) Verdict.Refused
+floor_answer c l = judged (valid_of c) c (cond (above_floor c l) granted (Err (refusal 5))) Err
 
 -- of a ledger of a lawful cluster
 unfoldable pub fit_answer : Config → Ledger → Verdict
-fit_answer c l = cond (bounded c l) (cond (above_floor c l) Verdict.Accepted (Verdict.Refused (refusal 5))) (Verdict.Refused (refusal 4))
+fit_answer c l = cond (bounded c l) (cond (above_floor c l) granted (Err (refusal 5))) (Err (refusal 4))
 
 unfoldable pub check_answer : Config → Ledger → Verdict
-check_answer c l = judged (valid_of c) c (fit_answer c l) Verdict.Refused
+check_answer c l = judged (valid_of c) c (fit_answer c l) Err

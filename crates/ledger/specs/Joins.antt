@@ -1,8 +1,9 @@
 -- The union of two ledgers (paper 01, "Sheets": two sheets join to their union, per giver the row with the larger count; it needs equal rows at
 -- equal counts and no cell smaller in the later row), and how two ledgers compare. The cell at k is one of row k / 16.
-use Rattle.std.specs.Prelude.{ℕ, ◌/◌, min, max, Bool, true, false, cond, not, leb, ltb, eqb, get_or}
+use Rattle.std.specs.Prelude.{ℕ, ◌/◌, min, max, Bool, true, false, cond, not, leb, ltb, eqb, get_or, Result, Ok, Err}
 use Rattle.quorums.specs.Sum.{all}
 use Rattle.config.specs.Refusals.{refusal}
+use Rattle.config.specs.declared.answer.Refusal.{Refusal}
 use Rattle.ledger.specs.declared.ledger.Ledger.{Ledger}
 use Rattle.ledger.specs.declared.ledger.Changed.{Changed}
 use Rattle.ledger.specs.declared.join.Compared.{Compared}
@@ -61,13 +62,12 @@ abbrev pub row_agrees_at : Ledger → Ledger → ℕ → Bool
 row_agrees_at a b i = row_agrees (count_of a i) (count_of b i) (cell_of a i) (cell_of b i)
 
 -- the first n rows
-unfoldable pub rows_compared : ℕ → Ledger → Ledger → Compared
+unfoldable pub rows_compared : ℕ → Ledger → Ledger → Result Compared Refusal
 rows_compared n a b =
-    cond (all n (row_agrees_at a b)) (record { joins = true; lacks = not (all n (has_at a b)); ahead = not (all n (has_at b a)) })
-    (record { joins = false; lacks = false; ahead = false })
+    cond (all n (row_agrees_at a b)) (Ok (record { lacks = not (all n (has_at a b)); ahead = not (all n (has_at b a)) })) (Err (refusal 6))
 
 -- of a cluster of n servers; a ledger has 16 rows
-unfoldable pub compared_of : ℕ → Ledger → Ledger → Compared
+unfoldable pub compared_of : ℕ → Ledger → Ledger → Result Compared Refusal
 compared_of n a b = rows_compared (min n 16) a b
 
 -- What the call answers. A refusal leaves the first ledger as it was.

@@ -1,11 +1,11 @@
 -- The ledger (paper 01: sheet): a count for each giver and what each gave each taker, in one flat array.
-use Rattle.std.specs.Prelude.{ℕ, ◌+◌, ◌*◌, ◌≤◌, ◌≡◌, List, length, get_or, replicate}
+use Rattle.std.specs.Prelude.{ℕ, ◌+◌, ◌*◌, ◌≤◌, ◌≡◌, List, length, get_or, take, drop, replicate, Err}
 use Rattle.quorums.specs.Sum.{sum}
 use Rattle.quorums.specs.Accounts.{Accounts}
 use Rattle.config.specs.Cluster.{start_of}
 use Rattle.config.specs.declared.cluster.Config.{Config}
 use Rattle.config.specs.declared.answer.Refusal.{Refusal}
-use Rattle.config.specs.declared.answer.Verdict.{Verdict}
+use Rattle.config.specs.Refusals.{granted}
 use Rattle.ledger.specs.declared.ledger.Ledger.{Ledger}
 use Rattle.ledger.specs.declared.ledger.Changed.{Changed}
 
@@ -25,9 +25,9 @@ count_of l i = get_or l.counts i 0
 abbrev pub cell_of : Ledger → ℕ → ℕ → ℕ
 cell_of l i j = get_or l.cells (i * 16 + j) 0
 
--- the sum of n cells from one on, a step apart
-unfoldable pub line_of : List ℕ → ℕ → ℕ → ℕ → ℕ
-line_of cells from step n = sum n (λ k. get_or cells (from + k * step) 0)
+-- what giver i gave each of the 16
+abbrev pub row_of : Ledger → ℕ → List ℕ
+row_of l i = take 16 (drop (i * 16) l.cells)
 
 -- what server i gave, and what it received
 unfoldable pub given_of : Ledger → ℕ → ℕ
@@ -43,10 +43,10 @@ accounts_of c l = record { start = start_of c; received = received_of l; given =
 -- What a call that changes a ledger hands back: a refusal leaves the ledger as it was.
 
 abbrev pub refused : Refusal → Ledger → Changed
-refused r l = record { verdict = Verdict.Refused r; ledger = l }
+refused r l = record { verdict = Err r; ledger = l }
 
 abbrev pub accepted : Ledger → Changed
-accepted l = record { verdict = Verdict.Accepted; ledger = l }
+accepted l = record { verdict = granted; ledger = l }
 
 -- The arrays of a ledger have their lengths.
 pub record Shaped (l : Ledger) : Type 0 where

@@ -1,18 +1,20 @@
 -- What each server received and gave, as two lists of 16 sums: weights need no more of a ledger.
-use Rattle.std.specs.Prelude.{ℕ, ◌+◌, ◌*◌, ◌≤◌, ◌<◌, ◌≡◌, Bool, cond, List, eqb, ltb, pos, length, get_or}
+use Rattle.std.specs.Prelude.{ℕ, ◌+◌, ◌*◌, ◌≤◌, ◌<◌, ◌≡◌, Bool, cond, List, eqb, ltb, length, get_or, replicate, Err, Ok}
 use Rattle.quorums.specs.Sum.{sum, all}
 use Rattle.quorums.specs.Accounts.{Accounts, weight}
 use Rattle.config.specs.Cluster.{start_of, above_of, most_weight}
-use Rattle.config.specs.Refusals.{by-verdict}
+use Rattle.config.specs.Refusals.{by-verdict, Signed}
 use Rattle.config.specs.declared.cluster.Config.{Config}
-use Rattle.config.specs.declared.answer.Refusal.{Refusal}
-use Rattle.config.specs.declared.answer.Verdict.{Verdict}
 use Rattle.ledger.specs.declared.ledger.Ledger.{Ledger}
-use Rattle.ledger.specs.declared.sums.Weighed.{Weighed}
 use Rattle.ledger.specs.Ledgers.{count_of, cell_of, received_of, given_of}
 use Rattle.ledger.specs.Weights.{margin_of}
 use Rattle.ledger.specs.Checks.{check_answer}
 
+-- nothing received, or nothing given
+abbrev pub no_sums : List ℕ
+no_sums = replicate 16 0
+
+-- accounts with the start weights of a cluster
 abbrev pub accounts_in : Config → List ℕ → List ℕ → Accounts
 accounts_in c received given = record { start = start_of c; received = λ i. get_or received i 0; given = λ i. get_or given i 0 }
 
@@ -29,8 +31,6 @@ pub record Sums (most : ℕ) (l : List ℕ) : Type 0 where
 pub record Weighs (c : Config) (l : Ledger) (received given : List ℕ) : Type 0 where
   pub takes : (i : ℕ) → i < c.n → get_or received i 0 ≡ received_of l i
   pub gives : (i : ℕ) → i < c.n → get_or given i 0 ≡ given_of l i
-  pub takes-small : Sums 68719476720 received
-  pub gives-small : Sums 68719476720 given
 
 -- ---- the record test in one pass: rows below n have a server each, and beyond them there is nothing
 
@@ -65,10 +65,6 @@ beyond_from n l i = cond (ltb i n) 0 (beyond n l i)
 unfoldable pub faults_of : ℕ → Ledger → ℕ
 faults_of n l = sum n (row_faults l) + sum 16 (beyond_from n l)
 
--- a ledger that is refused has no margin
-abbrev pub unweighed_of : Refusal → Weighed
-unweighed_of k = record { verdict = Verdict.Refused k; margin = pos 0 }
-
--- what the record test finds, and the margin of a map, 0 where the test refuses
-unfoldable pub weighed_of : Config → Ledger → ℕ → Weighed
-weighed_of c l m = record { verdict = check_answer c l; margin = by-verdict (check_answer c l) (margin_of c l m) (λ k. pos 0) }
+-- the margin of a map, where the record test passes, and else what that test refuses
+unfoldable pub margin_answer : Config → Ledger → ℕ → Signed
+margin_answer c l m = by-verdict (check_answer c l) (Ok (margin_of c l m)) Err

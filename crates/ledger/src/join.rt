@@ -1,19 +1,16 @@
 // The union of what two parties know (paper 01, "Sheets": two sheets join), and how two ledgers compare.
-ghost use Rattle.std.specs.Prelude.{◌≡◌, false, cond, [], ◌≤◌, min, max, eqb, leb, length, get_or};
+ghost use Rattle.std.specs.Prelude.{◌≡◌, ◌≤◌, min, eqb, leb, length, get_or};
 ghost use Rattle.quorums.specs.Sum.{all};
-ghost use Rattle.quorums.specs.Tables.{table};
-ghost use Rattle.ledger.specs.Ledgers.{ledger_of, Shaped};
-ghost use Rattle.ledger.specs.Joins.{agree, joins as joins_of, row_agrees, rows_compared, compared_of, joined, later, join_answer, equal as equal_of, lacks as lacks_of};
+ghost use Rattle.ledger.specs.Ledgers.{Shaped};
+ghost use Rattle.ledger.specs.Joins.{agree, joins as joins_of, row_agrees, compared_of, joined, join_answer, equal as equal_of, lacks as lacks_of};
 
 use super::ledger::{Changed, Ledger};
-use config::{Refusal, Verdict};
+use config::Refusal;
 
-// How a ledger compares with another, wherever one of the two has a transfer.
+// How a ledger compares with another whose rows agree with its own: whether the first lacks a transfer of the other, and whether the other lacks one of the
+// first.
 #[derive(Clone, Copy)]
 pub struct Compared {
-    // Their rows agree.
-    pub joins: bool,
-    // The first lacks a transfer of the other, and the other one of the first; both false where rows do not agree.
     pub lacks: bool,
     pub ahead: bool,
 }
@@ -24,159 +21,97 @@ impl Ledger {
     pub fn join(self, other: Ledger) -> Changed
         ensures { result ≡ join_answer self other }
     {
-        if !joins(&self.counts, &self.cells, &other.counts, &other.cells) {
+        if !self.joins(&other) {
             return self.refused(Refusal::Clash);
         }
-        let mut counts = self.counts;
-        let mut cells = self.cells;
-        take_held(&mut counts, &mut cells, &other.counts, &other.cells);
+        let mut ledger = self;
+        ledger.take(&other);
         Changed {
-            verdict: Verdict::Accepted,
-            ledger: Ledger { counts, cells },
+            verdict: Ok(()),
+            ledger,
         }
     }
 
-    // Whether both ledgers are the same: neither lacks a transfer of the other, and their rows agree.
+    // Whether both ledgers are the same.
     pub fn equal(self, other: Ledger) -> bool
         ensures { result ≡ equal_of self other }
     {
-        if lacks(&self.counts, &other.counts) {
-            return false;
-        }
-        if lacks(&other.counts, &self.counts) {
-            return false;
-        }
-        joins(&self.counts, &self.cells, &other.counts, &other.cells)
+        self == other
     }
 
     // Whether this ledger lacks a transfer of the other, which then has more.
     pub fn lacks(self, other: Ledger) -> bool
         ensures { result ≡ lacks_of self other }
     {
-        lacks(&self.counts, &other.counts)
-    }
-}
-
-// How two ledgers of n servers compare that are lent as their counts and cells, wherever they lie. Rows in which neither has a transfer are passed over.
-// To a proof a reference to an array does not say how many elements it has: that the first ledger has its lengths is told here.
-pub fn compare_lent(
-    n: u64,
-    counts: &[u16; 16],
-    cells: &[u32; 256],
-    other_counts: &[u16; 16],
-    other_cells: &[u32; 256],
-) -> Compared
-    ensures { (result ≡ compared_of n (ledger_of counts.now cells.now) (ledger_of other_counts.now other_cells.now)) × Shaped (ledger_of counts.now cells.now) }
-{
-    compare(rows_of(n), counts, cells, other_counts, other_cells)
-}
-
-// `take_lent` of a ledger whose counts and cells lie in one record.
-fn take_held<'b>(
-    counts: &mut [u16; 16],
-    cells: &mut [u32; 256],
-    other_counts: &'b [u16; 16],
-    other_cells: &'b [u32; 256],
-)
-    ensures { (counts.new ≡ (joined (ledger_of counts.old cells.old) (ledger_of other_counts.now other_cells.now)).counts) × (cells.new ≡ (joined (ledger_of counts.old cells.old) (ledger_of other_counts.now other_cells.now)).cells) }
-{
-    take_lent(counts, cells, other_counts, other_cells);
-}
-
-// Into a ledger that is lent, each row of another one that has more transfers: both together, where they join.
-pub fn take_lent(
-    counts: &mut [u16; 16],
-    cells: &mut [u32; 256],
-    other_counts: &[u16; 16],
-    other_cells: &[u32; 256],
-)
-    ensures { (counts.new ≡ (joined (ledger_of counts.old cells.old) (ledger_of other_counts.now other_cells.now)).counts) × (cells.new ≡ (joined (ledger_of counts.old cells.old) (ledger_of other_counts.now other_cells.now)).cells) }
-{
-    take_rows(counts, cells, other_counts, other_cells);
-}
-
-// The rows of a ledger of n servers.
-fn rows_of(n: u64) -> usize
-    ensures { (result ≡ min n 16) × (result ≤ 16) }
-{
-    if 16 < n {
-        return 16;
-    }
-    n as usize
-}
-
-// The first n rows, one by one.
-fn compare(
-    n: usize,
-    counts: &[u16],
-    cells: &[u32],
-    other_counts: &[u16],
-    other_cells: &[u32],
-) -> Compared
-    requires { (n ≤ 16) × (length counts.now ≡ 16) × (length cells.now ≡ 256) × (length other_counts.now ≡ 16) × (length other_cells.now ≡ 256) }
-    ensures { result ≡ rows_compared n (ledger_of counts.now cells.now) (ledger_of other_counts.now other_cells.now) }
-{
-    let mut has = true;
-    let mut told = true;
-    let mut i: usize = 0;
-    while i < n {
-        let a = i * 16;
-        let e = a + 16;
-        if !row_agrees(counts[i], other_counts[i], &cells[a..e], &other_cells[a..e]) {
-            return Compared {
-                joins: false,
-                lacks: false,
-                ahead: false,
-            };
+        for i in 0..16 {
+            if self.counts[i] < other.counts[i] {
+                return true;
+            }
         }
-        has = both(other_counts[i] <= counts[i], has);
-        told = both(counts[i] <= other_counts[i], told);
-        i += 1;
+        false
     }
-    Compared {
-        joins: true,
-        lacks: !has,
-        ahead: !told,
+
+    // How this ledger compares with another, for n servers, or 6 where rows do not agree. Rows in which neither has a transfer are passed over.
+    pub fn compare(&self, other: &Ledger, n: u64) -> Result<Compared, Refusal>
+        ensures { (result ≡ compared_of n self.now other.now) × Shaped self.now }
+    {
+        let mut has = true;
+        let mut told = true;
+        // Counts and rows of both are read at i: zips of the four would be no plainer, here and in `joins`.
+        for i in 0..n.min(16) as usize {
+            let mine = self.counts[i];
+            let theirs = other.counts[i];
+            if !row_agrees(mine, theirs, self.row(i), other.row(i)) {
+                return Err(Refusal::Clash);
+            }
+            has &= theirs <= mine;
+            told &= mine <= theirs;
+        }
+        Ok(Compared {
+            lacks: !has,
+            ahead: !told,
+        })
+    }
+
+    // Takes each row of another ledger that has more transfers: both together, where they join.
+    pub fn take(&mut self, other: &Ledger)
+        ensures { self.new ≡ joined self.old other.now }
+    {
+        for i in 0..16 {
+            let mine = self.counts[i];
+            let theirs = other.counts[i];
+            if mine < theirs {
+                self.cells[i * 16..i * 16 + 16].copy_from_slice(other.row(i));
+            }
+            self.counts[i] = mine.max(theirs);
+        }
+    }
+
+    // Whether rows with equal counts are equal, and no cell of a later row is smaller.
+    fn joins(&self, other: &Ledger) -> bool
+        ensures { result ≡ joins_of self.now other.now }
+    {
+        for i in 0..16 {
+            if !row_joins(self.counts[i], other.counts[i], self.row(i), other.row(i)) {
+                return false;
+            }
+        }
+        true
     }
 }
 
-// Whether two rows agree, which are not looked at where neither has a transfer.
+// Whether two rows agree, where neither is looked at if both have no transfer.
 fn row_agrees(count: u16, other_count: u16, row: &[u32], other_row: &[u32]) -> bool
     requires { (length row.now ≡ 16) × (length other_row.now ≡ 16) }
     ensures { result ≡ row_agrees count other_count (λ j. get_or row.now j 0) (λ j. get_or other_row.now j 0) }
 {
-    if count == 0 {
-        if other_count == 0 {
-            return true;
-        }
+    if count == 0 && other_count == 0 {
+        return true;
     }
     row_joins(count, other_count, row, other_row)
 }
 
-// Whether rows with equal counts are equal, and no cell of a later row is smaller. Ledgers are lent as their counts and cells, since a copy of one takes
-// longer than a row.
-fn joins<'a, 'b>(
-    counts: &'a [u16],
-    cells: &'a [u32],
-    other_counts: &'b [u16],
-    other_cells: &'b [u32],
-) -> bool
-    requires { (length counts.now ≡ 16) × (length cells.now ≡ 256) × (length other_counts.now ≡ 16) × (length other_cells.now ≡ 256) }
-    ensures { result ≡ joins_of (ledger_of counts.now cells.now) (ledger_of other_counts.now other_cells.now) }
-{
-    let mut i: usize = 0;
-    while i < 16 {
-        let a = i * 16;
-        let e = a + 16;
-        if !row_joins(counts[i], other_counts[i], &cells[a..e], &other_cells[a..e]) {
-            return false;
-        }
-        i += 1;
-    }
-    true
-}
-
-// The same of two rows.
+// Whether two rows agree.
 fn row_joins(count: u16, other_count: u16, row: &[u32], other_row: &[u32]) -> bool
     requires { (length row.now ≡ 16) × (length other_row.now ≡ 16) }
     ensures { result ≡ all 16 (λ j. agree count other_count (get_or row.now j 0) (get_or other_row.now j 0)) }
@@ -196,94 +131,21 @@ fn none_smaller(row: &[u32], earlier: &[u32]) -> bool
     ensures { result ≡ all 16 (λ j. leb (get_or earlier.now j 0) (get_or row.now j 0)) }
 {
     let mut so_far = true;
-    let mut j: usize = 0;
-    while j < 16 {
-        so_far = both(earlier[j] <= row[j], so_far);
-        j += 1;
+    for (cell, before) in row.iter().zip(earlier) {
+        so_far &= *before <= *cell;
     }
     so_far
 }
 
-// Whether the cells of two rows are the same, which it finds in the same way.
+// Whether the cells of two rows are the same, which it finds in the same way: `==` on slices is a call, and takes a quarter longer for the ledgers of 16
+// servers.
 fn same_cells(row: &[u32], other_row: &[u32]) -> bool
     requires { (length row.now ≡ 16) × (length other_row.now ≡ 16) }
     ensures { result ≡ all 16 (λ j. eqb (get_or row.now j 0) (get_or other_row.now j 0)) }
 {
     let mut so_far = true;
-    let mut j: usize = 0;
-    while j < 16 {
-        so_far = both(row[j] == other_row[j], so_far);
-        j += 1;
+    for (cell, other) in row.iter().zip(other_row) {
+        so_far &= *cell == *other;
     }
     so_far
-}
-
-// Two tests, of which the second is made in any case.
-pub(crate) fn both(first: bool, second: bool) -> bool
-    ensures { result ≡ cond first second false }
-{
-    if first {
-        return second;
-    }
-    false
-}
-
-// Whether the first counts lack a transfer of the others.
-fn lacks(counts: &[u16], other_counts: &[u16]) -> bool
-    requires { (length counts.now ≡ 16) × (length other_counts.now ≡ 16) }
-    ensures { result ≡ lacks_of (ledger_of counts.now []) (ledger_of other_counts.now []) }
-{
-    let mut i: usize = 0;
-    while i < 16 {
-        if counts[i] < other_counts[i] {
-            return true;
-        }
-        i += 1;
-    }
-    false
-}
-
-// The rows with more transfers, one by one.
-fn take_rows(counts: &mut [u16], cells: &mut [u32], other_counts: &[u16], other_cells: &[u32])
-    requires { (length counts.old ≡ 16) × (length cells.old ≡ 256) × (length other_counts.now ≡ 16) × (length other_cells.now ≡ 256) }
-    ensures { (counts.new ≡ (joined (ledger_of counts.old cells.old) (ledger_of other_counts.now other_cells.now)).counts) × (cells.new ≡ (joined (ledger_of counts.old cells.old) (ledger_of other_counts.now other_cells.now)).cells) }
-{
-    let mut i: usize = 0;
-    while i < 16 {
-        let a = i * 16;
-        let e = a + 16;
-        take_row(
-            counts[i],
-            other_counts[i],
-            &mut cells[a..e],
-            &other_cells[a..e],
-        );
-        counts[i] = larger(counts[i], other_counts[i]);
-        i += 1;
-    }
-}
-
-// A row, or the other one where that has more transfers.
-fn take_row(count: u16, other_count: u16, row: &mut [u32], other_row: &[u32])
-    requires { (length row.old ≡ 16) × (length other_row.now ≡ 16) }
-    ensures { row.new ≡ table 16 (λ j. later count other_count (get_or row.old j 0) (get_or other_row.now j 0)) }
-{
-    if other_count <= count {
-        return;
-    }
-    let mut j: usize = 0;
-    while j < 16 {
-        row[j] = other_row[j];
-        j += 1;
-    }
-}
-
-// The larger count.
-fn larger(first: u16, second: u16) -> u16
-    ensures { result ≡ max first second }
-{
-    if second <= first {
-        return first;
-    }
-    second
 }

@@ -2,36 +2,30 @@
 ghost use Rattle.std.specs.Prelude.{◌≡◌, ◌<◌};
 ghost use Rattle.ledger.specs.Maps.{named, map_of, named_answer};
 
-use config::{Config, Number, Refusal};
+use config::{Config, Refusal};
 
 // How many servers a map names: 1 for the cluster or a bit ≥ n, then 15.
-pub fn count_named(config: Config, map: u16) -> Number
-    ensures { result ≡ named_answer config map }
+pub fn count_named(config: &Config, map: u16) -> Result<u64, Refusal>
+    ensures { result ≡ named_answer config.now map }
 {
     if !within(config, map) {
-        return Number::Refused(Refusal::BadHouse);
+        return Err(Refusal::BadHouse);
     }
-    if !config.lawful() {
-        return Number::Refused(Refusal::BadStart);
-    }
-    Number::Value(u16::count_ones(map) as u64)
+    config.least()?;
+    Ok(u64::from(map.count_ones()))
 }
 
 // Whether the cluster is within bounds and the map names servers of it only.
-pub fn within(config: Config, map: u16) -> bool
-    ensures { result ≡ map_of config map }
+pub fn within(config: &Config, map: u16) -> bool
+    ensures { result ≡ map_of config.now map }
 {
-    if !config.valid() {
-        return false;
-    }
-    let n = config.n as u32;
-    (map as u32) >> n == 0
+    config.valid() && u32::from(map) >> config.n == 0
 }
 
 // Whether a map names server i.
-pub(crate) fn names(map: u16, i: u64) -> bool
+pub(crate) fn names(map: u16, i: usize) -> bool
     requires { i < 16 }
     ensures { result ≡ named map i }
 {
-    ((map as u32) >> (i as u32)) % 2 == 1
+    (u32::from(map) >> i) % 2 == 1
 }

@@ -12,7 +12,7 @@ use Rattle.quorums.proofs.Tests.{both}
 use Rattle.format.specs.Bytes.{bytes, number, stands}
 use Rattle.format.proofs.Marks.{stands-none, stands-bit, stands-pos}
 use Rattle.format.proofs.Lengths.{bytes-length, number_same}
-use Rattle.message.specs.declared.state.Cursor.{Cursor}
+use Rattle.message.specs.Cursors.{Cursor}
 use Rattle.message.specs.Envelopes.{Bytes}
 use Rattle.message.specs.Cursors.{stay, number_at, within, read_bytes, read_number, skip, require}
 use Rattle.message.proofs.Sticky.{read_number-open, require-open}

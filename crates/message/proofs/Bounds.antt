@@ -19,9 +19,9 @@ use Rattle.format.proofs.Marks.{bit-above, bit-none}
 use Rattle.replica.specs.Registers.{is_start, register_fits}
 use Rattle.replica.proofs.Values.{value-length, value-fits}
 use Rattle.replica.proofs.Registers.{start-shown, start-passes, Tagged, tagged-fits}
-use Rattle.message.specs.declared.answer.Received.{Received}
-use Rattle.message.specs.declared.state.Cursor.{Cursor}
-use Rattle.message.specs.declared.state.RegisterRead.{RegisterRead}
+use Rattle.message.specs.Answers.{Received}
+use Rattle.message.specs.Cursors.{Cursor}
+use Rattle.message.specs.Scans.{RegisterRead}
 use Rattle.message.specs.Cursors.{read_number}
 use Rattle.message.specs.Scans.{cells_after, cell_read, read_count, cell_map_of, row_cells, row_of, rows_after, count_read, cell_of_row, ledger_read, register_of, sheet_of, end_of, scan_of}
 use Rattle.message.specs.Answers.{check, value_part, kept_of, replica_of, receive_of}

@@ -6,7 +6,7 @@ use mathlib.Core.List.{List, ◌++◌, append_assoc, append-nil}
 use lib.ListN.{length}
 use Rattle.format.specs.Bytes.{number, series, stands, bit}
 use Rattle.format.specs.Table.{cells}
-use Rattle.message.specs.declared.state.Cursor.{Cursor}
+use Rattle.message.specs.Cursors.{Cursor}
 use Rattle.message.specs.Cursors.{read_number}
 use Rattle.message.specs.Scans.{cells_after, cell_read}
 use Rattle.message.proofs.Ahead.{further}

@@ -1,14 +1,14 @@
 -- Messages whole. A replica that fits travels with every lawful envelope: the reader takes the message, and finds both again, the value with zeros
 -- after its bytes. What a reader takes is a lawful envelope and a replica that fits, and writing them gives the bytes back; what it refuses says nothing.
+use Rattle.std.specs.Prelude.{Err}
 use Prim.Native.Nat.{ℕ}
 use mathlib.Core.Path.{◌≡◌, refl, sym, ap, ◌∙◌}
 use mathlib.Core.Bool.{Bool, true, false, cond}
 use mathlib.Core.List.{List, []}
 use lib.Dec.{eqb}
 use Rattle.config.specs.declared.cluster.Config.{Config}
-use Rattle.config.specs.Refusals.{refusal}
+use Rattle.config.specs.Refusals.{refusal, granted}
 use Rattle.config.specs.declared.answer.Refusal.{Refusal}
-use Rattle.config.specs.declared.answer.Verdict.{Verdict}
 use Rattle.replica.specs.declared.replica.Replica.{Replica}
 use Rattle.quorums.specs.Tables.{run, table}
 use Rattle.replica.specs.Values.{bytes_of, empty_value}
@@ -17,7 +17,7 @@ use Rattle.replica.proofs.Values.{bytes-of-value, trimmed-bytes, fits-short}
 use Rattle.replica.proofs.Registers.{fits-value}
 use Rattle.replica.proofs.Replicas.{fits_told}
 use Rattle.message.specs.declared.envelope.Envelope.{Envelope}
-use Rattle.message.specs.declared.answer.Received.{Received}
+use Rattle.message.specs.Answers.{Received}
 use Rattle.message.specs.Envelopes.{blank_envelope, carried, message_of, trimmed_replica, Typed, Bytes}
 use Rattle.message.specs.Scans.{scan_of}
 use Rattle.message.specs.Answers.{check, verdict_of, value_part, accepted_of, refused_of, receive_of, value_answer}
@@ -55,7 +55,7 @@ module _ (c : Config) (e : Envelope) (r : Replica) (t : Typed e) (s : TypedRepli
   sent-check = (taken-told c e r t s).1 (l, f)
 
   -- and found again
-  pub received-back : receive_of c (message_of c e r) ≡ record { verdict = Verdict.Accepted; envelope = e; replica = trimmed_replica r }
+  pub received-back : receive_of c (message_of c e r) ≡ record { verdict = granted; envelope = e; replica = trimmed_replica r }
   received-back = received-found c e r t s sent-check
 
   -- and so are the bytes of the value
@@ -69,14 +69,14 @@ module _ (c : Config) (e : Envelope) (r : Replica) (t : Typed e) (s : TypedRepli
 -- ---- reading
 
 -- what is refused says nothing
-pub receive-refused : (c : Config) (msg : List ℕ) (k : Refusal) → (receive_of c msg).verdict ≡ Verdict.Refused k → receive_of c msg ≡ refused_of k
+pub receive-refused : (c : Config) (msg : List ℕ) (k : Refusal) → (receive_of c msg).verdict ≡ Err k → receive_of c msg ≡ refused_of k
 unfolding receive_of verdict_of
 receive-refused c msg k e =
     let told = sym (received-verdict c msg) ∙ e in
     let none = refused-check (check c msg) k told in
     rw none (ap {B = Received} (λ v. record { verdict = v; envelope = blank_envelope; replica = fresh_replica }) (rw none at told))
 
-module _ (c : Config) (msg : List ℕ) (b : Bytes msg) (a : (receive_of c msg).verdict ≡ Verdict.Accepted) where
+module _ (c : Config) (msg : List ℕ) (b : Bytes msg) (a : (receive_of c msg).verdict ≡ granted) where
   clean : check c msg ≡ 0
   clean = accepted-check (check c msg) (sym (received-verdict c msg) ∙ a)
 

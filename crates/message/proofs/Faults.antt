@@ -10,7 +10,7 @@ use lib.Dec.{ltb}
 use lib.ListN.{length, get_or}
 use Rattle.config.specs.Cluster.{lawful_of, cluster_fault}
 use Rattle.config.specs.declared.cluster.Config.{Config}
-use Rattle.config.specs.declared.answer.Verdict.{Verdict}
+use Rattle.config.specs.Refusals.{granted}
 use Rattle.config.proofs.Clusters.{lawful-bounds}
 use Rattle.ledger.specs.declared.ledger.Ledger.{Ledger}
 use Rattle.ledger.specs.Ledgers.{count_of, cell_of}
@@ -24,11 +24,11 @@ use Rattle.replica.specs.Replicas.{Typed as TypedReplica}
 use Rattle.replica.proofs.Values.{trimmed-is, fits-short}
 use Rattle.replica.proofs.Registers.{fits-value}
 use Rattle.message.specs.declared.envelope.Envelope.{Envelope}
-use Rattle.message.specs.declared.answer.Received.{Received}
-use Rattle.message.specs.declared.state.Cursor.{Cursor}
-use Rattle.message.specs.declared.state.HeadRead.{HeadRead}
-use Rattle.message.specs.declared.state.RegisterRead.{RegisterRead}
-use Rattle.message.specs.declared.state.SheetRead.{SheetRead}
+use Rattle.message.specs.Answers.{Received}
+use Rattle.message.specs.Cursors.{Cursor}
+use Rattle.message.specs.Scans.{HeadRead}
+use Rattle.message.specs.Scans.{RegisterRead}
+use Rattle.message.specs.Scans.{SheetRead}
 use Rattle.message.specs.Envelopes.{carried, message_of, trimmed_replica, Typed}
 use Rattle.message.specs.Cursors.{within, read_number}
 use Rattle.message.specs.Scans.{head_of, register_of, sheet_of, read_note, end_of, scan_of, Scan}
@@ -219,7 +219,7 @@ module _ (c : Config) (e : Envelope) (p : Replica) (te : Typed e) (tp : TypedRep
 
   -- the envelope and the replica are found, but for what lies past the value's bytes
   pub message-found : HeadGood → register_fits c p.register ≡ true → bounded c p.ledger ≡ true
-      → accepted_of (scan_of c (message_of c e p)) (message_of c e p) ≡ record { verdict = Verdict.Accepted; envelope = e; replica = trimmed_replica p }
+      → accepted_of (scan_of c (message_of c e p)) (message_of c e p) ≡ record { verdict = granted; envelope = e; replica = trimmed_replica p }
   unfolding scan_is register_is value_place
   message-found g r b =
       let value = registers.value_found c _ _ _ _ _ _ (carried p) at_register in
@@ -228,7 +228,7 @@ module _ (c : Config) (e : Envelope) (p : Replica) (te : Typed e) (tp : TypedRep
       ∙ ap {B = Received}
       (λ v.
       record {
-        verdict = Verdict.Accepted;
+        verdict = granted;
         envelope = e;
         replica = record { ledger = p.ledger; register = record { stamp = p.register.stamp; desk = p.register.desk; value = v } };
       })

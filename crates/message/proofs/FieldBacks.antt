@@ -12,7 +12,7 @@ use Rattle.format.specs.Bytes.{number, stands, bit}
 use Rattle.format.specs.Table.{register_mark, register, head}
 use Rattle.format.proofs.Lengths.{number_same}
 use Rattle.format.proofs.Marks.{stands-none, stands-pos, stands-bit, bit_le}
-use Rattle.message.specs.declared.state.Cursor.{Cursor}
+use Rattle.message.specs.Cursors.{Cursor}
 use Rattle.message.specs.Envelopes.{Bytes}
 use Rattle.message.specs.Cursors.{start, read_number, skip}
 use Rattle.message.specs.Scans.{map_lawful, read_map, read_kind, head_of, register_of}

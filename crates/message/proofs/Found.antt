@@ -1,4 +1,5 @@
 -- Reading undoes writing: what the writer takes, which is every lawful envelope with a replica that fits, is found again in its bytes.
+use Rattle.std.specs.Prelude.{Err}
 use Prim.Native.Nat.{ℕ, suc, ◌<◌}
 use native.Mathlib.Omega.{arith}
 use mathlib.Core.Path.{◌≡◌, refl, sym, ◌∙◌}
@@ -11,8 +12,7 @@ use Rattle.quorums.proofs.Tests.{both, test-false}
 use Rattle.config.specs.Cluster.{lawful_of, cluster_fault}
 use Rattle.config.proofs.Clusters.{fault-some}
 use Rattle.config.specs.declared.cluster.Config.{Config}
-use Rattle.config.specs.declared.answer.Number.{Number}
-use Rattle.config.specs.declared.answer.Verdict.{Verdict}
+use Rattle.config.specs.Refusals.{granted}
 use Rattle.config.specs.Refusals.{refusal}
 use Rattle.ledger.specs.Checks.{bounded, above_floor}
 use Rattle.replica.specs.declared.replica.Replica.{Replica}
@@ -71,7 +71,7 @@ module _ (c : Config) (e : Envelope) (r : Replica) where
   unfolding send_of
   fault-sends none out at = let t = faultless none in simp (t.0, t.1)
 
-  pub fault-sends-none : (fault_of c e r ≡ 0 → ⊥) → (out : List ℕ) (at : ℕ) → record { answer = Number.Refused (refusal 1); out = out } ≡ send_of c e r out at
+  pub fault-sends-none : (fault_of c e r ≡ 0 → ⊥) → (out : List ℕ) (at : ℕ) → record { answer = Err (refusal 1); out = out } ≡ send_of c e r out at
   unfolding send_of
   fault-sends-none some out at =
       let unsent = test-false (cond (lawful c e) (fits c r) false) (λ t. let told = both (lawful c e) _ t in some (no-fault told.0 told.1)) in
@@ -79,7 +79,7 @@ module _ (c : Config) (e : Envelope) (r : Replica) where
 
   -- with a lawful envelope that is the test of the replica, and then the message
   pub sends-held : lawful c e ≡ true → (out : List ℕ) (at : ℕ)
-      → send_of c e r out at ≡ cond (fits c r) (place (message_of c e r) out at) (record { answer = Number.Refused (refusal 1); out = out })
+      → send_of c e r out at ≡ cond (fits c r) (place (message_of c e r) out at) (record { answer = Err (refusal 1); out = out })
   unfolding send_of
   sends-held l out at = simp l
 
@@ -99,7 +99,7 @@ module _ (c : Config) (e : Envelope) (r : Replica) (te : Typed e) (tr : TypedRep
 
   -- reading undoes writing, but for what lies past the value's bytes
   pub received-found : check c (message_of c e r) ≡ 0
-      → receive_of c (message_of c e r) ≡ record { verdict = Verdict.Accepted; envelope = e; replica = trimmed_replica r }
+      → receive_of c (message_of c e r) ≡ record { verdict = granted; envelope = e; replica = trimmed_replica r }
   unfolding receive_of
   received-found clean =
       let t = taken-told.0 clean in
@@ -111,6 +111,6 @@ module _ (c : Config) (e : Envelope) (r : Replica) (te : Typed e) (tr : TypedRep
 
   -- a register of more than 64 bytes is not written, nor cut to be: it is 4, and the buffer is as it was
   pub long-refused : (out : List ℕ) (at : ℕ) → lawful_of c ≡ true → lawful c e ≡ true → most_value < r.register.value.length
-      → write_of c e r out at ≡ record { answer = Number.Refused (refusal 4); out = out }
+      → write_of c e r out at ≡ record { answer = Err (refusal 4); out = out }
   unfolding write_of
   long-refused out at valid l long = simp (fault-is-check c e r te tr ∙ long-fault c e r valid l long)

@@ -11,7 +11,7 @@ use lib.Seq.{get_or-append-add, get_or_at}
 use lib.Dec.{eqb, leb}
 use Rattle.format.specs.Bytes.{bytes, number, stands}
 use Rattle.format.proofs.Lengths.{bytes-length}
-use Rattle.message.specs.declared.state.Cursor.{Cursor}
+use Rattle.message.specs.Cursors.{Cursor}
 use Rattle.message.specs.Cursors.{number_at, within, read_bytes, read_number, skip, require}
 use Rattle.message.proofs.Stuck.{Stuck}
 

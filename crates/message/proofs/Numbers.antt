@@ -1,4 +1,5 @@
 -- The reader gives no number but 1 to 5, so that a verdict has the number that the check found.
+use Rattle.std.specs.Prelude.{Err}
 use Prim.Native.Nat.{ℕ, zero, suc, ◌+◌, ◌<◌, ◌≤◌}
 use native.Mathlib.Omega.{arith}
 use mathlib.Core.Path.{◌≡◌, refl, sym, ap}
@@ -10,13 +11,12 @@ use lib.ListN.{length}
 use Rattle.quorums.proofs.Tests.{chosen-first, chosen-second}
 use Rattle.config.specs.Cluster.{lawful_of, cluster_fault}
 use Rattle.config.proofs.Clusters.{fault-some}
-use Rattle.config.specs.Refusals.{number_of, refusal}
+use Rattle.config.specs.Refusals.{number_of, refusal, granted}
 use Rattle.config.proofs.Refusals.{number-back}
 use Rattle.config.specs.declared.cluster.Config.{Config}
 use Rattle.config.specs.declared.answer.Refusal.{Refusal}
-use Rattle.config.specs.declared.answer.Verdict.{Verdict}
 use Rattle.ledger.proofs.Checks.{accepted-not-refused}
-use Rattle.message.specs.declared.state.Cursor.{Cursor}
+use Rattle.message.specs.Cursors.{Cursor}
 use Rattle.message.specs.Cursors.{start, number_at, within, read_bytes, read_number, skip, require}
 use Rattle.message.specs.Scans.{cells_after, read_count, cell_map_of, row_of, rows_after, read_map, read_kind, head_of, register_of, sheet_of, read_note, end_of, scan_of}
 use Rattle.message.specs.Answers.{check, verdict_of, check_answer, accepted_of, refused_of, receive_of}
@@ -96,41 +96,41 @@ check-most c msg = by_lawful (lawful_of c) refl
 -- ---- the answer
 
 -- 0 is accepted
-pub check-accepted : (c : Config) (msg : List ℕ) → check c msg ≡ 0 → check_answer c msg ≡ Verdict.Accepted
+pub check-accepted : (c : Config) (msg : List ℕ) → check c msg ≡ 0 → check_answer c msg ≡ granted
 unfolding check_answer verdict_of
 check-accepted c msg e = simp (eq-eqb (check c msg) 0 e)
 
 -- every other number is that of the refusal
 pub check-refused : (c : Config) (msg : List ℕ) → 0 < check c msg
-    → (check_answer c msg ≡ Verdict.Refused (refusal (check c msg))) × (number_of (refusal (check c msg)) ≡ check c msg)
+    → (check_answer c msg ≡ Err (refusal (check c msg))) × (number_of (refusal (check c msg)) ≡ check c msg)
 unfolding check_answer verdict_of
 check-refused c msg p = (simp (ne_eqb (check c msg) 0 (λ e. omega arith)), number-back (check c msg) p (omega (arith, check-most c msg)))
 
 -- and a verdict tells whether there was a number
-pub accepted-check : (k : ℕ) → verdict_of k ≡ Verdict.Accepted → k ≡ 0
+pub accepted-check : (k : ℕ) → verdict_of k ≡ granted → k ≡ 0
 unfolding verdict_of
 accepted-check k e =
     eqb-true k 0
-    (chosen-first (eqb k 0) Verdict.Accepted (Verdict.Refused (refusal k)) Verdict.Accepted (λ d. accepted-not-refused (refusal k) (sym d)) e).0
+    (chosen-first (eqb k 0) granted (Err (refusal k)) granted (λ d. accepted-not-refused (refusal k) (sym d)) e).0
 
-pub refused-check : (k : ℕ) (n : Refusal) → verdict_of k ≡ Verdict.Refused n → eqb k 0 ≡ false
+pub refused-check : (k : ℕ) (n : Refusal) → verdict_of k ≡ Err n → eqb k 0 ≡ false
 unfolding verdict_of
-refused-check k n e = chosen-second (eqb k 0) Verdict.Accepted (Verdict.Refused (refusal k)) (Verdict.Refused n) (accepted-not-refused n) e
+refused-check k n e = chosen-second (eqb k 0) granted (Err (refusal k)) (Err n) (accepted-not-refused n) e
 
 -- what is received has the verdict of the check
 pub received-verdict : (c : Config) (msg : List ℕ) → (receive_of c msg).verdict ≡ verdict_of (check c msg)
 unfolding receive_of verdict_of
 received-verdict c msg = by-test (eqb (check c msg) 0)
   where
-    by-test : (b : Bool) → (cond b (accepted_of (scan_of c msg) msg) (refused_of (refusal (check c msg)))).verdict ≡ cond b Verdict.Accepted (Verdict.Refused (refusal (check c msg)))
+    by-test : (b : Bool) → (cond b (accepted_of (scan_of c msg) msg) (refused_of (refusal (check c msg)))).verdict ≡ cond b granted (Err (refusal (check c msg)))
     by-test true = refl
     by-test false = refl
 
 -- where it is a refusal, an answer that is made of the refusal of the number is made of this one
-pub verdict-refused : {A : Type 0} (k : ℕ) (r : Refusal) (x : A) (f : Refusal → A) → verdict_of k ≡ Verdict.Refused r → f r ≡ cond (eqb k 0) x (f (refusal k))
+pub verdict-refused : {A : Type 0} (k : ℕ) (r : Refusal) (x : A) (f : Refusal → A) → verdict_of k ≡ Err r → f r ≡ cond (eqb k 0) x (f (refusal k))
 unfolding verdict_of
 verdict-refused k r x f e =
     let some = refused-check k r e in
-    let same : Verdict.Refused (refusal k) ≡ Verdict.Refused r = rw some at e in
+    let same : Err (refusal k) ≡ Err r = rw some at e in
     let is : r ≡ refusal k = cc in
     rw some (ap f is)

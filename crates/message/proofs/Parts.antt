@@ -8,7 +8,7 @@ use borrow.Author.Tests.{leb-true, eq-eqb}
 use lib.Dec.{leb}
 use lib.ListN.{length, drop, length-take}
 use Rattle.config.specs.declared.cluster.Config.{Config}
-use Rattle.message.specs.declared.state.Cursor.{Cursor}
+use Rattle.message.specs.Cursors.{Cursor}
 use Rattle.message.specs.Cursors.{stay, skip}
 use Rattle.message.specs.Scans.{register_of, scan_of}
 use Rattle.message.specs.Answers.{value_part}

@@ -1,4 +1,5 @@
 -- What a call that writes leaves in a buffer: from the place on it is the message, and before it and after it nothing has changed.
+use Rattle.std.specs.Prelude.{Ok, Err}
 use Prim.Native.Nat.{ℕ, ◌+◌, ◌-◌, ◌≤◌}
 use native.Mathlib.Omega.{arith}
 use mathlib.Core.Path.{◌≡◌, refl, sym, ap, ◌∙◌}
@@ -8,7 +9,6 @@ use borrow.Author.Tests.{leb-true}
 use lib.ListN.{length, take, drop}
 use lib.Seq.{length-take-le, take-append_seam, drop-append_seam, drop-append-add, drop-drop}
 use Rattle.config.specs.Refusals.{refusal}
-use Rattle.config.specs.declared.answer.Number.{Number}
 use Rattle.config.proofs.Clusters.{value-not-refused}
 use Rattle.message.specs.Answers.{fits as room, over, Written, place, between}
 
@@ -16,20 +16,20 @@ module _ (m out : List ℕ) (at : ℕ) where
   -- what `place` gives, by whether the message has room
   abbrev given : Bool → Written
   given b =
-      cond b (record { answer = Number.Value (at + length m); out = take at out ++ over m (drop at out) })
-      (record { answer = Number.Refused (refusal 13); out = out })
+      cond b (record { answer = Ok (at + length m); out = take at out ++ over m (drop at out) })
+      (record { answer = Err (refusal 13); out = out })
 
   -- a message that has room is written
-  pub place-room : room (length out) at (length m) ≡ true → (place m out at).answer ≡ Number.Value (at + length m)
+  pub place-room : room (length out) at (length m) ≡ true → (place m out at).answer ≡ Ok (at + length m)
   unfolding place
   place-room e = rw e refl
 
   -- one that is written has room
-  pub place-value : (x : ℕ) → (place m out at).answer ≡ Number.Value x → room (length out) at (length m) ≡ true
+  pub place-value : (x : ℕ) → (place m out at).answer ≡ Ok x → room (length out) at (length m) ≡ true
   unfolding place
   place-value x e = by-test (room (length out) at (length m)) e
     where
-      by-test : (b : Bool) → (given b).answer ≡ Number.Value x → b ≡ true
+      by-test : (b : Bool) → (given b).answer ≡ Ok x → b ≡ true
       by-test true d = refl
       by-test false d = absurd (value-not-refused x (refusal 13) (sym d))
 
@@ -39,14 +39,14 @@ record Standing (m out : List ℕ) (at next : ℕ) : Type 0 where
   pub next-is : next ≡ at + length m
   pub out-is : (place m out at).out ≡ take at out ++ (m ++ drop (length m) (drop at out))
 
-stands : (m out : List ℕ) (at next : ℕ) → (place m out at).answer ≡ Number.Value next → Standing m out at next
+stands : (m out : List ℕ) (at next : ℕ) → (place m out at).answer ≡ Ok next → Standing m out at next
 unfolding place room over
 stands m out at next e =
     let r = place-value m out at next e in
-    let d : Number.Value (at + length m) ≡ Number.Value next = sym (place-room m out at r) ∙ e in
+    let d : Ok (at + length m) ≡ Ok next = sym (place-room m out at r) ∙ e in
     record { place_in = leb-true _ _ r; next-is = cc; out-is = rw r refl }
 
-module _ (m out : List ℕ) (at next : ℕ) (e : (place m out at).answer ≡ Number.Value next) where
+module _ (m out : List ℕ) (at next : ℕ) (e : (place m out at).answer ≡ Ok next) where
   placed : Standing m out at next
   placed = stands m out at next e
 

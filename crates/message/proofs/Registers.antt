@@ -17,7 +17,7 @@ use Rattle.replica.specs.Values.{bytes_of}
 use Rattle.replica.specs.Registers.{is_start, register_fits, Typed as TypedRegister}
 use Rattle.replica.proofs.Values.{bytes-length, fits-short, short-fits}
 use Rattle.replica.proofs.Registers.{start-told, start-shown, start-passes, fits-tagged, tagged-fits, typed-stamp, fits-value}
-use Rattle.message.specs.declared.state.Cursor.{Cursor}
+use Rattle.message.specs.Cursors.{Cursor}
 use Rattle.message.specs.Cursors.{read_number}
 use Rattle.message.specs.Scans.{register_of}
 use Rattle.message.proofs.Stuck.{Stuck, read_number-stuck, skip-stuck}

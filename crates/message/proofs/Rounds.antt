@@ -22,8 +22,8 @@ use Rattle.replica.specs.declared.replica.Replica.{Replica}
 use Rattle.replica.specs.Replicas.{Typed as TypedReplica}
 use Rattle.replica.proofs.Values.{bytes-of-value, value-typed}
 use Rattle.message.specs.declared.envelope.Envelope.{Envelope}
-use Rattle.message.specs.declared.answer.Received.{Received}
-use Rattle.message.specs.declared.state.Cursor.{Cursor}
+use Rattle.message.specs.Answers.{Received}
+use Rattle.message.specs.Cursors.{Cursor}
 use Rattle.message.specs.Envelopes.{carried, fields_with, message_of, Bytes, Typed}
 use Rattle.message.specs.Scans.{map_lawful, head_of, register_of, sheet_of, read_note, end_of, scan_of}
 use Rattle.message.specs.Answers.{check, value_part, kept_of, replica_of, accepted_of, receive_of}

@@ -17,7 +17,7 @@ use Rattle.ledger.specs.Checks.{total_fits}
 use Rattle.format.specs.Bytes.{number, stands, marks, bit}
 use Rattle.format.specs.Table.{cell_map, cells, row_mark, row}
 use Rattle.format.proofs.Marks.{stands-none, stands-pos, marks-lt, bit-marks}
-use Rattle.message.specs.declared.state.Cursor.{Cursor}
+use Rattle.message.specs.Cursors.{Cursor}
 use Rattle.message.specs.Cursors.{within, read_number, require}
 use Rattle.message.specs.Scans.{RowRead, cells_after, cell_read, read_count, cell_map_of, row_cells, row_of}
 use Rattle.message.proofs.Stuck.{Stuck, stuck_at, require-stuck, row-stuck-map, map-stuck}

@@ -19,7 +19,7 @@ use Rattle.format.specs.Table.{cell_map, cells, row_mark, row, row_map, rows, sh
 use Rattle.format.proofs.Lengths.{number_same, series-next}
 use Rattle.format.proofs.Marks.{stands-none, stands-zero, stands-bit, stands_same, bit_le, marks-bit, marks-stand, bit-none}
 use Rattle.format.proofs.Same.{SameSheet, row_map-same, rows_same}
-use Rattle.message.specs.declared.state.Cursor.{Cursor}
+use Rattle.message.specs.Cursors.{Cursor}
 use Rattle.message.specs.Envelopes.{Bytes}
 use Rattle.message.specs.Cursors.{read_number}
 use Rattle.message.specs.Scans.{cells_after, cell_read, read_count, cell_map_of, row_cells, row_of, rows_after, count_read, cell_of_row, ledger_read, sheet_of}

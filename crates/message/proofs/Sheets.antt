@@ -20,8 +20,8 @@ use Rattle.quorums.proofs.Tables.{is-table}
 use Rattle.format.specs.Bytes.{number, series, stands, marks, bit}
 use Rattle.format.specs.Table.{row_mark, row, row_map, rows, sheet}
 use Rattle.format.proofs.Marks.{stands-pos, marks-lt, marks-cut, bit-marks, bit-above}
-use Rattle.message.specs.declared.state.Cursor.{Cursor}
-use Rattle.message.specs.declared.state.SheetRead.{SheetRead}
+use Rattle.message.specs.Cursors.{Cursor}
+use Rattle.message.specs.Scans.{SheetRead}
 use Rattle.message.specs.Cursors.{read_number}
 use Rattle.message.specs.Scans.{row_cells, row_of, rows_after, count_read, cell_of_row, ledger_read, sheet_of}
 use Rattle.message.proofs.Stuck.{Stuck, stuck_at, row-stuck, rows_none, rows-stuck}

@@ -6,7 +6,7 @@ use mathlib.Core.Bool.{Bool}
 use mathlib.Core.List.{List}
 use Rattle.config.specs.declared.cluster.Config.{Config}
 use Rattle.ledger.specs.declared.ledger.Ledger.{Ledger}
-use Rattle.message.specs.declared.state.Cursor.{Cursor}
+use Rattle.message.specs.Cursors.{Cursor}
 use Rattle.message.specs.Cursors.{read_number, skip, require}
 use Rattle.message.specs.Scans.{cells_after, row_of, rows_after, register_of, sheet_of, read_note, end_of}
 use Rattle.message.proofs.Stuck.{Stuck, read_number-stuck, skip-stuck, require-stuck, cells-stuck, row-stuck, rows_none, rows-stuck, register-stuck, sheet-stuck, note-stuck, end-stuck}

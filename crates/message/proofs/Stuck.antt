@@ -10,7 +10,7 @@ use Rattle.quorums.proofs.Sums.{below_suc}
 use Rattle.config.specs.declared.cluster.Config.{Config}
 use Rattle.ledger.specs.declared.ledger.Ledger.{Ledger}
 use Rattle.format.specs.Bytes.{bit}
-use Rattle.message.specs.declared.state.Cursor.{Cursor}
+use Rattle.message.specs.Cursors.{Cursor}
 use Rattle.message.specs.Cursors.{read_number, skip, require}
 use Rattle.message.specs.Scans.{cells_after, cell_map_of, read_count, row_of, rows_after, head_of, register_of, sheet_of, read_note, end_of, scan_of}
 

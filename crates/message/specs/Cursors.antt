@@ -1,7 +1,12 @@
 -- The steps that a reader is made of (paper 01, "Message bytes": each number, map and value in turn, first 2 if short, then 4). A step leaves a
 -- cursor that has a number where it is.
 use Rattle.std.specs.Prelude.{ℕ, zero, suc, ◌+◌, ◌*◌, Bool, false, cond, List, length, get_or, eqb, leb}
-use Rattle.message.specs.declared.state.Cursor.{Cursor}
+
+-- Where a reader stands: the number of the first fault, 0 where there was none, the place of the next byte, and the number read last, 0 where none stood there.
+pub record Cursor : Type 0 where
+  pub number : ℕ
+  pub at : ℕ
+  pub x : ℕ
 
 abbrev pub start : Cursor
 start = record { number = 0; at = 0; x = 0 }

@@ -1,10 +1,9 @@
 -- The reader's number for the bytes of an envelope and a replica, found without the bytes, and what a party sends of what it holds. `Faults` in proofs/ shows that
 -- the number is `check`.
-use Rattle.std.specs.Prelude.{ℕ, ◌≡◌, Bool, true, false, cond, not, List, eqb, ltb}
+use Rattle.std.specs.Prelude.{ℕ, ◌≡◌, Bool, true, false, cond, not, List, eqb, ltb, Err}
 use Rattle.config.specs.Cluster.{lawful_of, cluster_fault}
 use Rattle.config.specs.declared.cluster.Config.{Config}
 use Rattle.config.specs.Refusals.{refusal}
-use Rattle.config.specs.declared.answer.Number.{Number}
 use Rattle.ledger.specs.Checks.{bounded, above_floor}
 use Rattle.replica.specs.declared.replica.Replica.{Replica}
 use Rattle.replica.specs.Registers.{register_fits}
@@ -38,7 +37,7 @@ fault_of c e r =
 -- What a party sends of what it holds, by its own record test: 1 where the envelope is not lawful or the replica does not fit, then 13; else the place after the message.
 unfoldable pub send_of : Config → Envelope → Replica → List ℕ → ℕ → Written
 send_of c e r out at =
-    cond (cond (lawful c e) (fits c r) false) (place (message_of c e r) out at) (record { answer = Number.Refused (refusal 1); out = out })
+    cond (cond (lawful c e) (fits c r) false) (place (message_of c e r) out at) (record { answer = Err (refusal 1); out = out })
 
 -- What is known of the envelope and the replica of a message that has passed its checks.
 pub record Passed (c : Config) (e : Envelope) (r : Replica) : Type 0 where

@@ -8,12 +8,8 @@ use Rattle.ledger.specs.Checks.{total_fits, above_floor}
 use Rattle.quorums.specs.Tables.{table}
 use Rattle.format.specs.Bytes.{bit}
 use Rattle.replica.specs.Values.{most_value}
-use Rattle.message.specs.declared.state.Cursor.{Cursor}
-use Rattle.message.specs.declared.state.HeadRead.{HeadRead}
-use Rattle.message.specs.declared.state.RegisterRead.{RegisterRead}
-use Rattle.message.specs.declared.state.SheetRead.{SheetRead}
 use Rattle.message.specs.declared.envelope.Envelope.{Envelope}
-use Rattle.message.specs.Cursors.{start, read_number, skip, require}
+use Rattle.message.specs.Cursors.{Cursor, start, read_number, skip, require}
 
 -- ---- the map and bits 0 to 3
 
@@ -32,6 +28,15 @@ read_map msg = let c = read_number msg 1 2 0 65535 start in require (map_lawful 
 unfoldable pub read_kind : List ℕ → Cursor → Cursor
 read_kind msg map = let c = read_number msg 1 1 1 3 map in require (kind_has c.x map.x) 3 c
 
+-- The map and the fields of bits 0 to 3, and the cursor behind them.
+pub record HeadRead : Type 0 where
+  pub map : ℕ
+  pub kind : ℕ
+  pub server : ℕ
+  pub desk : ℕ
+  pub round : ℕ
+  pub cursor : Cursor
+
 unfoldable pub head_of : Config → List ℕ → HeadRead
 head_of c msg =
     let map = read_map msg in
@@ -42,6 +47,14 @@ head_of c msg =
     record { map = map.x; kind = kind.x; server = server.x; desk = desk.x; round = round.x; cursor = round }
 
 -- ---- bit 4: the register stands where s isn't 0
+
+-- The tag, where the value lies, and the cursor behind it.
+pub record RegisterRead : Type 0 where
+  pub stamp : ℕ
+  pub desk : ℕ
+  pub from : ℕ
+  pub length : ℕ
+  pub cursor : Cursor
 
 unfoldable pub register_of : Config → List ℕ → ℕ → Cursor → RegisterRead
 register_of c msg s from =
@@ -100,6 +113,11 @@ cell_of_row c msg m from i = row_cells c msg i (bit m i) (rows_after c msg m fro
 
 unfoldable pub ledger_read : Config → List ℕ → ℕ → Cursor → Ledger
 ledger_read c msg m from = record { counts = table 16 (count_read c msg m from); cells = table 256 (λ k. cell_of_row c msg m from (k / 16) (k % 16)) }
+
+-- The ledger, and the cursor behind it.
+pub record SheetRead : Type 0 where
+  pub ledger : Ledger
+  pub cursor : Cursor
 
 unfoldable pub sheet_of : Config → List ℕ → ℕ → Cursor → SheetRead
 sheet_of c msg s from =

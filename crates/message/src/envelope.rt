@@ -1,6 +1,4 @@
 // A message is an envelope and the replica that it carries (paper 01, "Message bytes").
-ghost use Rattle.std.specs.Prelude.{◌≡◌};
-ghost use Rattle.message.specs.Envelopes.{blank_envelope};
 
 // The kinds of message.
 pub const REQUEST: u8 = 1;
@@ -9,27 +7,13 @@ pub const REPLY: u8 = 2;
 
 pub const SHARE: u8 = 3;
 
-// The fields of a message beside the replica. Desk, round and note are 0 where absent.
+// The fields of a message beside the replica. Desk, round and note are 0 where absent, as in the byte table; `write` refuses sets of them that no kind has.
 #[derive(Clone, Copy)]
 pub struct Envelope {
+    // A number and no enum: `write` refuses a kind that is none of the three by 4, a clause on just such numbers, and an enum would ask more of its callers.
     pub kind: u8,
     pub server: u8,
     pub desk: u16,
     pub round: u32,
     pub note: u32,
-}
-
-impl Envelope {
-    // The envelope with every field 0, which stands beside a refusal.
-    pub fn blank() -> Envelope
-        ensures { result ≡ blank_envelope }
-    {
-        Envelope {
-            kind: 0,
-            server: 0,
-            desk: 0,
-            round: 0,
-            note: 0,
-        }
-    }
 }

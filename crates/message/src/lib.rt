@@ -4,8 +4,6 @@
 
 mod answer;
 mod envelope;
-mod state;
 
-pub use answer::{Fields, Received, Tag, Taken};
+pub use answer::{Fields, Message, Taken};
 pub use envelope::{Envelope, REPLY, REQUEST, SHARE};
-pub use state::{Cursor, HeadRead, RegisterRead, SheetRead};

@@ -10,7 +10,7 @@ use Rattle.quorums.proofs.Sums.{sum-zero}
 use Rattle.config.specs.declared.cluster.Config.{Config}
 use Rattle.ledger.specs.Checks.{total_fits}
 use Rattle.format.proofs.Marks.{bit-none}
-use Rattle.message.specs.declared.state.Cursor.{Cursor}
+use Rattle.message.specs.Cursors.{Cursor}
 use Rattle.message.specs.Cursors.{stay, number_at, within, read_bytes, read_number, require}
 use Rattle.message.specs.Scans.{cells_after, cell_read, read_count, cell_map_of, row_cells, row_of}
 use Rattle.message.proofs.Moves.{require-passes}

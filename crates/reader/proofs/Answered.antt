@@ -1,186 +1,181 @@
--- What is answered, from the number of the check, from what was taken and from the sums of the sheet.
-use Prim.Native.Nat.{ℕ, ◌+◌, ◌≤◌}
+-- What the calls answer, from what the message was found to say.
+use Rattle.std.specs.Prelude.{Result, Ok, Err}
+use Prim.Native.Nat.{ℕ, ◌+◌, ◌*◌, ◌/◌, ◌%◌, ◌≤◌}
 use native.Mathlib.Omega.{arith}
 use mathlib.Core.Path.{◌≡◌, refl, sym, ap, ap₂, ◌∙◌}
-use mathlib.Core.Bool.{true, false}
-use mathlib.Core.List.{List}
-use lib.ListN.{length}
+use mathlib.Core.Bool.{Bool, true, false, cond}
+use mathlib.Core.List.{List, []}
 use borrow.Author.Tests.{eq-eqb, ne_eqb, le-ltb}
+use lib.Dec.{eqb}
+use lib.ListN.{get_or, replicate, length-replicate, get_or-replicate}
 use Rattle.quorums.specs.Accounts.{weight, margin}
-use Rattle.config.specs.Cluster.{lawful_of, server_of, cluster_fault}
-use Rattle.config.proofs.Clusters.{lawful-valid, fault-some}
-use Rattle.config.specs.Refusals.{most_refusal, refusal}
-use Rattle.config.specs.declared.answer.Refusal.{Refusal}
-use Rattle.config.specs.declared.answer.Verdict.{Verdict}
-use Rattle.config.specs.declared.cluster.Config.{Config}
-use Rattle.config.specs.declared.answer.Signed.{Signed}
-use Rattle.format.specs.Bytes.{bit}
-use Rattle.ledger.specs.Ledgers.{fresh_ledger, received_of, given_of, Typed}
-use Rattle.ledger.specs.Maps.{named, map_of}
-use Rattle.ledger.specs.Weights.{weight_answer, quorum_answer}
 use Rattle.quorums.specs.Tables.{table}
-use Rattle.message.specs.Scans.{head_of, register_of, scan_of}
-use Rattle.message.specs.declared.state.RegisterRead.{RegisterRead}
-use Rattle.message.specs.declared.answer.Received.{Received}
+use Rattle.quorums.proofs.Tables.{is-table}
+use Rattle.config.specs.Cluster.{lawful_of, server_of}
+use Rattle.config.proofs.Clusters.{lawful-valid}
+use Rattle.config.specs.Refusals.{refusal, granted}
+use Rattle.config.specs.declared.answer.Refusal.{Refusal}
+use Rattle.config.specs.declared.cluster.Config.{Config}
+use Rattle.ledger.specs.Ledgers.{fresh_ledger}
+use Rattle.ledger.specs.Maps.{named, map_of}
+use Rattle.ledger.specs.Sums.{accounts_in}
+use Rattle.ledger.specs.Weights.{weight_answer, quorum_answer}
+use Rattle.ledger.specs.declared.ledger.Ledger.{Ledger}
+use Rattle.ledger.proofs.Weights.{sums-weight, sums-margin}
+use Rattle.replica.specs.declared.register.Register.{Register}
+use Rattle.message.specs.Answers.{Received, check, verdict_of, check_answer, receive_of, message_answer, taken_answer, taken_ledger, fields_in, fields_answer, value_answer}
+use Rattle.message.specs.Scans.{sheet_of, ledger_read, scan_of}
+use Rattle.message.specs.declared.answer.Message.{Message}
 use Rattle.message.specs.declared.answer.Taken.{Taken}
 use Rattle.message.specs.declared.envelope.Envelope.{Envelope}
-use Rattle.message.specs.Answers.{check, verdict_of, check_answer, value_part, kept_of, refused_of, receive_of, untaken_of, taken_of, taken_ledger, value_answer}
-use Rattle.message.proofs.Numbers.{scan-most}
-use Rattle.message.proofs.Parts.{value-within}
 use Rattle.message.proofs.Rounds.{check-told, received}
-use Rattle.message.proofs.Envelopes.{receive-refused}
-use Rattle.message.proofs.TakenLemmas.{taken-ledger}
-use Rattle.message.proofs.SheetBacks.{ledger-typed}
+use Rattle.message.proofs.TakenLemmas.{message-received, message-refused as received-refused, taken-refused, taken-received}
+use Rattle.reader.specs.Keeping.{KeptIn}
+use Rattle.reader.specs.Registers.{Shown, register_at, kept_at}
+use Rattle.reader.specs.Sheets.{sheet_counts, sheet_cells}
+use Rattle.reader.specs.Tallies.{SumsOf}
 use Rattle.reader.specs.Weighings.{weight_in, quorum_in}
-use Rattle.ledger.specs.Sums.{Sums, accounts_in}
-use Rattle.reader.specs.Sums.{SheetSums}
-use Rattle.ledger.proofs.Weights.{received-sums, given-sums, sums-weight, sums-margin}
+use Rattle.reader.specs.Wholes.{ShownFound, found_answer, counts_taken, cells_taken}
+use Rattle.reader.specs.declared.tally.Tally.{Tally}
+use Rattle.reader.proofs.Outcomes.{outcome-ok, outcome-err}
 
--- ---- the number of the check
+-- ---- the message is refused
 
-pub check-unlawful : (c : Config) (msg : List ℕ) → lawful_of c ≡ false → check c msg ≡ cluster_fault c
-unfolding check
-check-unlawful c msg e = simp e
+-- its number is that of the refusal
+pub record Fails (c : Config) (msg : List ℕ) (r : Refusal) : Type 0 where
+  pub some : check c msg ≡ 0 → ⊥
+  pub is : r ≡ refusal (check c msg)
 
-check-found : (c : Config) (msg : List ℕ) (k : ℕ) → lawful_of c ≡ true → k ≡ (scan_of c msg).number → check c msg ≡ k
-unfolding check
-check-found c msg k v e = simp v (sym e)
+module _ (c : Config) (msg : List ℕ) (r : Refusal) (e : Err r ≡ found_answer c msg) where
+  pub fails : Fails c msg r
+  unfolding found_answer
+  fails = let told = outcome-err _ _ r e in record { some = told.0; is = told.1 }
 
--- and the verdict that goes by it
+  some : eqb (check c msg) 0 ≡ false
+  some = ne_eqb (check c msg) 0 fails.some
 
-pub verdict-unlawful : (c : Config) (msg : List ℕ) (k : ℕ) → lawful_of c ≡ false → cluster_fault c ≡ k → Verdict.Refused (refusal k) ≡ check_answer c msg
-unfolding check_answer verdict_of
-verdict-unlawful c msg k e is = rw (check-unlawful c msg e, is, ne_eqb k 0 (λ z. omega (arith, z, is, (fault-some c e).0))) refl
-
-module _ (c : Config) (msg : List ℕ) (k : ℕ) (valid : lawful_of c ≡ true) (found : k ≡ (scan_of c msg).number) where
-  pub verdict-passed : k ≡ 0 → Verdict.Accepted ≡ check_answer c msg
+  pub check-refused : Err r ≡ check_answer c msg
   unfolding check_answer verdict_of
-  verdict-passed e = simp (check-found c msg k valid found, eq-eqb k 0 e)
+  check-refused = simp some (ap Err fails.is)
 
-  pub verdict-found : (r : Refusal) → (k ≡ 0 → ⊥) → r ≡ refusal k → Verdict.Refused r ≡ check_answer c msg
-  unfolding check_answer verdict_of
-  verdict-found r ne is = simp (check-found c msg k valid found, ne_eqb k 0 ne) (ap Verdict.Refused is)
+  pub taken_refused : Err r ≡ taken_answer c msg
+  unfolding taken_answer receive_of
+  taken_refused = simp some (ap Err fails.is)
 
--- a number that a scan found is a refusal's
-pub found-refusal : (c : Config) (msg : List ℕ) (k : ℕ) → k ≡ (scan_of c msg).number → (k ≡ 0 → ⊥) → (1 ≤ k) × (k ≤ most_refusal)
-found-refusal c msg k found ne = omega (arith, ne, found, scan-most c msg)
-
--- ---- what is taken
-
--- a cluster that isn't lawful
-module _ (c : Config) (msg : List ℕ) (unlawful : lawful_of c ≡ false) where
-  pub taken-unlawful : (k : ℕ) → cluster_fault c ≡ k → untaken_of (refusal k) ≡ taken_of c msg
-  unfolding taken_of receive_of
-  taken-unlawful k is = rw (check-unlawful c msg unlawful, is, ne_eqb k 0 (λ z. omega (arith, z, is, (fault-some c unlawful).0))) refl
-
-  pub ledger-unlawful : fresh_ledger ≡ taken_ledger c msg
-  unfolding taken_ledger
-  ledger-unlawful = simp unlawful
-
--- and one that is
-pub ledger-valid : (c : Config) (msg : List ℕ) → lawful_of c ≡ true → (scan_of c msg).ledger ≡ taken_ledger c msg
-unfolding taken_ledger
-ledger-valid c msg valid = simp valid
-
-module _ (c : Config) (msg : List ℕ) (k : ℕ) (valid : lawful_of c ≡ true) (found : k ≡ (scan_of c msg).number) where
-  pub taken_refused : (r : Refusal) → (k ≡ 0 → ⊥) → r ≡ refusal k → untaken_of r ≡ taken_of c msg
-  unfolding taken_of receive_of
-  taken_refused r ne is = simp (check-found c msg k valid found, ne_eqb k 0 ne) (ap untaken_of is)
-
-  pub taken-passed : k ≡ 0 → {e : Envelope} {r : RegisterRead} → e ≡ (scan_of c msg).envelope → r ≡ (scan_of c msg).register
-      → record { verdict = Verdict.Accepted; envelope = e; register = kept_of msg r } ≡ taken_of c msg
-  unfolding taken_of receive_of
-  taken-passed z p q = rw (p, q) (simp (check-found c msg k valid found, eq-eqb k 0 z))
-
--- what is received, by what was taken
-module _ (c : Config) (msg : List ℕ) (t : Taken) (is : t ≡ taken_of c msg) where
-  received-told : t.verdict ≡ (receive_of c msg).verdict
-  unfolding taken_of
-  received-told = ap (λ (x : Taken). x.verdict) is
-
-  pub received-refused : (r : Refusal) → t.verdict ≡ Verdict.Refused r → refused_of r ≡ receive_of c msg
-  received-refused r e = sym (receive-refused c msg r (sym received-told ∙ e))
-
-  pub received-passed : {counts cells : List ℕ} → counts ≡ (taken_ledger c msg).counts → cells ≡ (taken_ledger c msg).cells → t.verdict ≡ Verdict.Accepted
-      → record { verdict = Verdict.Accepted; envelope = t.envelope; replica = record { ledger = record { counts = counts; cells = cells }; register = t.register } }
-      ≡ receive_of c msg
-  unfolding taken_of
-  received-passed p q e =
-      let told = sym received-told ∙ e in
-      rw (p, q, taken-ledger c msg told, is, ← told)
-
--- ---- the value, from the register
-
-module _ (c : Config) (msg : List ℕ) (r : RegisterRead) (register : r ≡ register_of c msg (bit (head_of c msg).map 4) (head_of c msg).cursor) where
-  pub register-scanned : r ≡ (scan_of c msg).register
-  unfolding scan_of
-  register-scanned = register
-
-  -- it lies within the message
-  pub register-within : (scan_of c msg).number ≡ 0 → r.from + r.length ≤ length msg
-  register-within e = rw register-scanned (value-within c msg e)
-
-  pub register-value : check c msg ≡ 0 → value_part msg r ≡ value_answer c msg
+  pub value-refused : [] ≡ value_answer c msg
   unfolding value_answer
-  register-value e = rw register-scanned (simp (eq-eqb (check c msg) 0 e))
+  value-refused = simp some
 
--- ---- the sums of a scan are small
+  pub weight-refused : (i : ℕ) → Err r ≡ weight_in c i msg
+  unfolding weight_in
+  weight-refused i = simp some (ap Err fails.is)
 
-ledger-small : (c : Config) (msg : List ℕ) → Typed (scan_of c msg).ledger
-unfolding scan_of
-ledger-small c msg = ledger-typed c msg _ _
+  pub quorum-refused : (m : ℕ) → Err r ≡ quorum_in c m msg
+  unfolding quorum_in
+  quorum-refused m = simp some (ap Err fails.is)
 
-pub received-small : (c : Config) (msg : List ℕ) {xs : List ℕ} → xs ≡ table 16 (received_of (scan_of c msg).ledger) → Sums 68719476720 xs
-received-small c msg e = rw e (received-sums _ (ledger-small c msg))
+-- ---- or it passes
 
-pub given-small : (c : Config) (msg : List ℕ) {xs : List ℕ} → xs ≡ table 16 (given_of (scan_of c msg).ledger) → Sums 68719476720 xs
-given-small c msg e = rw e (given-sums _ (ledger-small c msg))
+module _ (c : Config) (msg : List ℕ) (f : ShownFound) (e : Ok f ≡ found_answer c msg) where
+  pub passes : check c msg ≡ 0
+  unfolding found_answer
+  passes = (outcome-ok _ _ f e).0
 
--- ---- the sheet of a message without a fault
+  envelope-is : f.envelope ≡ (scan_of c msg).envelope
+  unfolding found_answer
+  envelope-is = ap (λ (x : ShownFound). x.envelope) (outcome-ok _ _ f e).1
 
-ledger-found : (c : Config) (msg : List ℕ) → check c msg ≡ 0 → (scan_of c msg).ledger ≡ (receive_of c msg).replica.ledger
-ledger-found c msg e = ap (λ (x : Received). x.replica.ledger) (sym (received c msg e))
+  register-is : f.register ≡ register_at msg (scan_of c msg).register
+  unfolding found_answer
+  register-is = ap (λ (x : ShownFound). x.register) (outcome-ok _ _ f e).1
 
--- the sums of a scan are those of the sheet
-pub sums-found : (c : Config) (msg : List ℕ) {received given : List ℕ} → check c msg ≡ 0
-    → received ≡ table 16 (received_of (scan_of c msg).ledger)
-    → given ≡ table 16 (given_of (scan_of c msg).ledger)
-    → SheetSums c msg received given
-sums-found c msg e r g =
-    let same = ledger-found c msg e in
-    record { takes = r ∙ ap (λ l. table 16 (received_of l)) same; gives = g ∙ ap (λ l. table 16 (given_of l)) same }
+  none : eqb (check c msg) 0 ≡ true
+  none = eq-eqb (check c msg) 0 passes
 
-module _ (c : Config) (msg : List ℕ) {received given : List ℕ} (passed : check c msg ≡ 0) (found : check c msg ≡ 0 → SheetSums c msg received given) where
-  pub sheet-small : Sums 68719476720 received × Sums 68719476720 given
-  sheet-small =
-      let same = sym (ledger-found c msg passed) in (
-        received-small c msg ((found passed).takes ∙ ap (λ l. table 16 (received_of l)) same),
-        given-small c msg ((found passed).gives ∙ ap (λ l. table 16 (given_of l)) same),
-      )
+  pub check-passed : granted ≡ check_answer c msg
+  unfolding check_answer verdict_of
+  check-passed = simp none
 
-  -- the weight of a server
-  pub weight-answered : (i : ℕ) → server_of c i ≡ true → Signed.Value (weight (accounts_in c received given) i) ≡ weight_in c i msg
-  unfolding weight_in weight_answer
-  weight-answered i s =
-      let sums = found passed in
-      rw (eq-eqb (check c msg) 0 passed, s, (check-told c msg passed).0)
-      (ap Signed.Value (ap₂ (λ r g. weight (accounts_in c r g) i) sums.takes sums.gives ∙ sums-weight c _ i s))
+  pub value-passed : f.register.value ≡ value_answer c msg
+  unfolding value_answer
+  value-passed = simp none (ap (λ (g : Shown). g.value) register-is)
 
-  -- the margin of a map
-  pub quorum-answered : (m : ℕ) → map_of c m ≡ true → Signed.Value (margin c.n (accounts_in c received given) (named m)) ≡ quorum_in c m msg
+  pub taken-passed : Ok (record { envelope = f.envelope; register = kept_at f.register }) ≡ taken_answer c msg
+  unfolding taken_answer receive_of
+  taken-passed = simp none (ap₂ (λ (e : Envelope) (g : Register). taken e g) envelope-is (ap kept_at register-is))
+    where
+      taken : Envelope → Register → Result Taken Refusal
+      taken e g = Ok (record { envelope = e; register = g })
+
+  -- the sums of the sheet
+  ledger-is : (scan_of c msg).ledger ≡ (receive_of c msg).replica.ledger
+  ledger-is = ap (λ (x : Received). x.replica.ledger) (sym (received c msg passes))
+
+  module _ (sums : Tally) (adds : SumsOf (scan_of c msg).ledger sums) where
+    sums-are : SumsOf (receive_of c msg).replica.ledger sums
+    sums-are = rw (← ledger-is) adds
+
+    pub weight-passed : (i : ℕ) → server_of c i ≡ true → Ok (weight (accounts_in c sums.received sums.given) i) ≡ weight_in c i msg
+    unfolding weight_in weight_answer
+    weight-passed i s =
+        rw (none, s, (check-told c msg passes).0)
+        (ap Ok (ap₂ (λ r g. weight (accounts_in c r g) i) sums-are.0 sums-are.1 ∙ sums-weight c _ i s))
+
+    pub quorum-passed : (m : ℕ) → map_of c m ≡ true → Ok (margin c.n (accounts_in c sums.received sums.given) (named m)) ≡ quorum_in c m msg
+    unfolding quorum_in quorum_answer
+    quorum-passed m s =
+        rw (none, s, (check-told c msg passes).0)
+        (ap Ok
+        (ap₂ (λ r g. margin c.n (accounts_in c r g) (named m)) sums-are.0 sums-are.1
+        ∙ sums-margin c _ m (lawful-valid c (check-told c msg passes).0)))
+
+  -- a server that there isn't, and a map with a bit from n on
+
+  pub server-refused : (i : ℕ) → c.n ≤ i → Err (refusal 1) ≡ weight_in c i msg
+  unfolding weight_in weight_answer server_of
+  server-refused i h = simp (none, lawful-valid c (check-told c msg passes).0, le-ltb i c.n h)
+
+  pub map-refused : (m : ℕ) → map_of c m ≡ false → Err (refusal 1) ≡ quorum_in c m msg
   unfolding quorum_in quorum_answer
-  quorum-answered m e =
-      let sums = found passed in
-      rw (eq-eqb (check c msg) 0 passed, e, (check-told c msg passed).0)
-      (ap Signed.Value
-      (ap₂ (λ r g. margin c.n (accounts_in c r g) (named m)) sums.takes sums.gives ∙ sums-margin c _ m (lawful-valid c (check-told c msg passed).0)))
+  map-refused m n = simp (none, n)
 
--- a server that there isn't, and a map with a bit from n on
+-- ---- the ledger that was kept
 
-pub server-refused : (c : Config) (i : ℕ) (msg : List ℕ) → check c msg ≡ 0 → c.n ≤ i → Signed.Refused (refusal 1) ≡ weight_in c i msg
-unfolding weight_in weight_answer server_of
-server-refused c i msg e h = simp (e, lawful-valid c (check-told c msg e).0, le-ltb i c.n h)
+tables : (l : Ledger) (f : ℕ → ℕ) (g : ℕ → ℕ → ℕ) → KeptIn l f g → l ≡ record { counts = table 16 f; cells = table 256 (λ k. g (k / 16) (k % 16)) }
+tables l f g h =
+    ap₂ {C = Ledger} (λ x y. record { counts = x; cells = y }) (is-table 16 f l.counts h.sixteen h.counted)
+    (is-table 256 _ l.cells h.square
+    (λ k b.
+    let place : k ≡ k / 16 * 16 + k % 16 = omega arith in
+    ap (λ n. get_or l.cells n 0) place ∙ h.filled (k / 16) (k % 16) (omega arith) (omega arith)))
 
-pub map-refused : (c : Config) (m : ℕ) (msg : List ℕ) → check c msg ≡ 0 → map_of c m ≡ false → Signed.Refused (refusal 1) ≡ quorum_in c m msg
-unfolding quorum_in quorum_answer
-map-refused c m msg e n = simp (e, n)
+zeros : (n : ℕ) → table n (λ k. 0) ≡ replicate n 0
+zeros n = sym (is-table n (λ k. 0) (replicate n 0) (length-replicate {A = ℕ} n 0) (λ k b. get_or-replicate n k 0 0 b))
+
+pub ledger-kept : (c : Config) (msg : List ℕ) (l : Ledger) → KeptIn l (counts_taken c msg) (cells_taken c msg) → l ≡ taken_ledger c msg
+unfolding taken_ledger scan_of sheet_of ledger_read counts_taken cells_taken sheet_counts sheet_cells
+ledger-kept c msg l h = by_lawful (lawful_of c) refl
+  where
+    by_lawful : (b : Bool) → lawful_of c ≡ b → l ≡ cond b (scan_of c msg).ledger fresh_ledger
+    by_lawful true e = tables l _ _ (simp e at h)
+    by_lawful false e = tables l _ _ (simp e at h) ∙ ap₂ {C = Ledger} (λ x y. record { counts = x; cells = y }) (zeros 16) (zeros 256)
+
+-- ---- what is received, by what was taken
+
+pub message-refused : (c : Config) (msg : List ℕ) (r : Refusal) → taken_answer c msg ≡ Err r → Err r ≡ message_answer c msg
+unfolding message_answer
+message-refused c msg r e = rw (ap (λ (x : Received). x.verdict) (taken-refused c msg r e)) refl
+
+pub message-passed : (c : Config) (msg : List ℕ) (t : Taken) (l : Ledger) → taken_answer c msg ≡ Ok t → l ≡ taken_ledger c msg
+    → Ok (record { envelope = t.envelope; replica = record { ledger = l; register = t.register } }) ≡ message_answer c msg
+unfolding message_answer
+message-passed c msg t l e g = rw (taken-received c msg t e l g) refl
+
+-- all but the value of it
+pub fields-refused : (c : Config) (msg : List ℕ) (r : Refusal) → message_answer c msg ≡ Err r → Err r ≡ fields_answer c msg
+unfolding fields_answer
+fields-refused c msg r e = rw (ap (λ (x : Received). x.verdict) (received-refused c msg r e)) refl
+
+pub fields-passed : (c : Config) (msg : List ℕ) (m : Message) → message_answer c msg ≡ Ok m → Ok (fields_in m.envelope m.replica) ≡ fields_answer c msg
+unfolding fields_answer
+fields-passed c msg m e = rw (message-received c msg m e) refl

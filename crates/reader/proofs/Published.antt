@@ -1,5 +1,6 @@
 -- The published restricted pairwise rule (source document 000) of the sheet of a message that passes its checks: what is answered of a quorum is
 -- Definition 1's, and the sheet has RP-Integrity (Definition 5).
+use Rattle.std.specs.Prelude.{Ok}
 use Prim.Native.Nat.{ℕ}
 use mathlib.Core.Path.{◌≡◌, sym, ap, ◌∙◌}
 use mathlib.Core.Logic.{◌↔◌}
@@ -12,7 +13,7 @@ use lib.Signed.{lt_z}
 use Rattle.quorums.specs.Published.{WeightedMajority, RpIntegrity}
 use Rattle.quorums.proofs.Tests.{chosen-first, fails}
 use Rattle.config.specs.declared.cluster.Config.{Config}
-use Rattle.config.specs.declared.answer.Signed.{Signed}
+use Rattle.config.specs.Refusals.{Signed}
 use Rattle.ledger.specs.Ledgers.{accounts_of}
 use Rattle.ledger.specs.Maps.{named, map_of}
 use Rattle.ledger.specs.Weights.{margin_of, quorum_of}
@@ -27,7 +28,7 @@ use Rattle.reader.specs.Weighings.{quorum_in}
 -- a number is told, and its sign: whether it is above zero
 pub record Tells (s : Signed) (sign : Bool) : Type 0 where
   pub number : ℤ
-  pub told : s ≡ Signed.Value number
+  pub told : s ≡ Ok number
   pub above_zero : lt_z (pos 0) number ≡ sign
 
 -- the number is told of a message that passes and a map of the cluster, and its sign is what the sheet decides

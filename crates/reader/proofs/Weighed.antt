@@ -3,7 +3,7 @@
 use Prim.Native.Nat.{ℕ, ◌+◌, ◌*◌, ◌/◌, ◌%◌, ◌≤◌, ◌<◌}
 use native.Mathlib.Numerals.{add-one}
 use native.Mathlib.Omega.{arith}
-use mathlib.Core.Path.{◌≡◌, sym, ap, ap₂, ◌∙◌}
+use mathlib.Core.Path.{◌≡◌, refl, sym, ap, ap₂, ◌∙◌}
 use mathlib.Core.List.{List}
 use lib.ListN.{length, get_or, replicate}
 use Rattle.quorums.specs.Sum.{sum}
@@ -13,37 +13,57 @@ use Rattle.ledger.specs.Ledgers.{cell_of, received_of, given_of}
 use Rattle.quorums.specs.Tables.{table}
 use Rattle.quorums.proofs.Tables.{is-table, table_at, table_same}
 use Rattle.format.specs.Bytes.{bit}
-use Rattle.message.specs.declared.state.Cursor.{Cursor}
-use Rattle.message.specs.Scans.{cells_after, cell_read, row_cells, row_of, rows_after, cell_of_row, ledger_read}
+use Rattle.message.specs.Cursors.{Cursor}
+use Rattle.reader.specs.Steps.{at_place}
+use Rattle.reader.proofs.Outcomes.{Clean, same-number}
+use Rattle.message.specs.Scans.{RowRead, cells_after, cell_read, read_count, row_cells, row_of, rows_after, count_read, cell_of_row, ledger_read}
 use Rattle.message.proofs.Backs.{number-most}
 use Rattle.ledger.proofs.Tallies.{Tallied, tally-zeros, sum-all}
 use Rattle.reader.proofs.Rests.{NoRows}
 
 -- ---- one row more
 
-pub row-cursor : (c : Config) (msg : List ℕ) (m : ℕ) (from : Cursor) (i b : ℕ) {at d : Cursor} → at ≡ rows_after c msg m from i → b ≡ bit m i
-    → d ≡ (row_of c msg i b at).cursor → d ≡ rows_after c msg m from (i + 1)
-unfolding rows_after
-row-cursor c msg m from i b here stands e = rw add-one (e ∙ ap₂ (λ s a. (row_of c msg i s a).cursor) stands here)
+-- a row is read from the place of its cursor
+module _ (msg : List ℕ) {d : Cursor} {at x : ℕ} (h : Clean d at x) where
+  same-count : (s : ℕ) → read_count msg s (at_place at) ≡ read_count msg s d
+  unfolding read_count
+  same-count s = same-number h msg s 2 1 65535
 
-pub row-cells-are : (c : Config) (msg : List ℕ) (m : ℕ) (from : Cursor) (i b : ℕ) {at : Cursor} → at ≡ rows_after c msg m from i → b ≡ bit m i
-    → (j : ℕ) → row_cells c msg i b at j ≡ cell_of_row c msg m from i j
-unfolding cell_of_row
-row-cells-are c msg m from i b here stands j = ap₂ (λ s a. row_cells c msg i s a j) stands here
+  pub same-row : (c : Config) (i s : ℕ) → row_of c msg i s (at_place at) ≡ row_of c msg i s d
+  unfolding row_of
+  same-row c i s = rw (same-count s) refl
 
--- what each server received by one row more
-pub row-received : (c : Config) (msg : List ℕ) (m : ℕ) (from : Cursor) (i b : ℕ) (xs : List ℕ) {at : Cursor} {ys : List ℕ} → at ≡ rows_after c msg m from i → b ≡ bit m i
-    → ys ≡ table 16 (λ j. get_or xs j 0 + row_cells c msg i b at j) → ((k : ℕ) → k < 16 → get_or xs k 0 ≡ sum i (λ r. cell_of_row c msg m from r k))
-    → (k : ℕ) → k < 16 → get_or ys k 0 ≡ sum (i + 1) (λ r. cell_of_row c msg m from r k)
-row-received c msg m from i b xs here stands e sums k l =
-    ap (λ zs. get_or zs k 0) e
-    ∙ table_at 16 _ k l
-    ∙ omega (arith, sums k l, row-cells-are c msg m from i b here stands k, sum-next i (λ r. cell_of_row c msg m from r k))
+  pub same-cells : (c : Config) (i s j : ℕ) → row_cells c msg i s (at_place at) j ≡ row_cells c msg i s d j
+  unfolding row_cells
+  same-cells c i s j = rw (same-count s) refl
 
--- what its giver gave by it
-pub row-given : (c : Config) (msg : List ℕ) (m : ℕ) (from : Cursor) (i b : ℕ) {at : Cursor} {total : ℕ} → at ≡ rows_after c msg m from i → b ≡ bit m i
-    → total ≡ sum 16 (row_cells c msg i b at) → total ≡ sum 16 (cell_of_row c msg m from i)
-row-given c msg m from i b here stands e = e ∙ sum_same 16 _ _ (λ j l. row-cells-are c msg m from i b here stands j)
+module _ (c : Config) (msg : List ℕ) (m : ℕ) (from : Cursor) (i : ℕ) {at x : ℕ} (here : Clean (rows_after c msg m from i) at x) (stands : 1 ≡ bit m i) where
+  row-is : row_of c msg i 1 (at_place at) ≡ row_of c msg i (bit m i) (rows_after c msg m from i)
+  row-is = same-row msg here c i 1 ∙ ap (λ s. row_of c msg i s (rows_after c msg m from i)) stands
+
+  pub row-cursor : (row_of c msg i 1 (at_place at)).cursor ≡ rows_after c msg m from (i + 1)
+  unfolding rows_after
+  row-cursor = rw add-one (ap (λ (r : RowRead). r.cursor) row-is)
+
+  pub row-cells-are : (j : ℕ) → row_cells c msg i 1 (at_place at) j ≡ cell_of_row c msg m from i j
+  unfolding cell_of_row
+  row-cells-are j = same-cells msg here c i 1 j ∙ ap (λ s. row_cells c msg i s (rows_after c msg m from i) j) stands
+
+  pub row-count-is : (row_of c msg i 1 (at_place at)).count ≡ count_read c msg m from i
+  unfolding count_read
+  row-count-is = ap (λ (r : RowRead). r.count) row-is
+
+  -- what each server received by it, and what its giver gave
+  pub row-received : (xs : List ℕ) {ys : List ℕ} → ys ≡ table 16 (λ j. get_or xs j 0 + row_cells c msg i 1 (at_place at) j)
+      → ((k : ℕ) → k < 16 → get_or xs k 0 ≡ sum i (λ r. cell_of_row c msg m from r k))
+      → (k : ℕ) → k < 16 → get_or ys k 0 ≡ sum (i + 1) (λ r. cell_of_row c msg m from r k)
+  row-received xs e sums k l =
+      ap (λ zs. get_or zs k 0) e
+      ∙ table_at 16 _ k l
+      ∙ omega (arith, sums k l, row-cells-are k, sum-next i (λ r. cell_of_row c msg m from r k))
+
+  pub row-given : sum 16 (row_cells c msg i 1 (at_place at)) ≡ sum 16 (cell_of_row c msg m from i)
+  row-given = sum_same 16 _ _ (λ j l. row-cells-are j)
 
 -- ---- cells are small
 

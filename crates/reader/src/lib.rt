@@ -2,14 +2,13 @@
 // own message, and weights and quorums on a message's sheet.
 #![tactic(auto)]
 
-mod cursor;
 mod head;
+mod keep;
 mod read;
 mod register;
-mod scan;
-mod sums;
-mod take;
-mod weigh;
+mod sheet;
+mod step;
+mod tally;
 mod whole;
 
-pub use read::{check, fields, quorum, receive, receive_lent, value, weight};
+pub use read::{check, fields, quorum, receive, receive_into, value, weight};

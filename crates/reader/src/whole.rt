@@ -1,81 +1,56 @@
-// What a whole message says.
-ghost use Rattle.std.specs.Prelude.{◌≡◌, true, replicate};
-ghost use Rattle.config.specs.Cluster.{lawful_of, least_of};
-ghost use Rattle.format.specs.Bytes.{bit as bit_of};
-ghost use Rattle.message.specs.Scans.{head_of, register_of, scan_of};
-ghost use Rattle.message.specs.Answers.{taken_of, untaken_of};
+// A whole message, in one pass over its bytes.
+ghost use Rattle.std.specs.Prelude.{◌≡◌, OnOk};
+ghost use Rattle.message.specs.Scans.{scan_of};
+ghost use Rattle.reader.specs.Sheets.{no_counts, no_cells};
+ghost use Rattle.reader.specs.Tallies.{NoSums, SumsOf};
+ghost use Rattle.reader.specs.Steps.{on_ok};
+ghost use Rattle.reader.specs.Wholes.{found_answer, shown_found, counts_taken, cells_taken};
 
-use super::cursor::{MOST_FOUR, bit, read_number};
 use super::head::read_head;
-use super::register::{kept, read_register};
-use super::scan::{finish, refusal};
-use super::take::take_sheet;
-use config::{Config, Refusal, Verdict};
-use message::{Envelope, RegisterRead, Taken};
-use replica::Register;
+use super::keep::Keep;
+use super::register::{RegisterAt, read_register};
+use super::sheet::read_sheet;
+use super::step::{MOST_FOUR, bit, read_number};
+use super::tally::Tally;
+use config::{Config, Refusal};
+use message::Envelope;
 
-// The register of a message, and where its value lies.
-pub(crate) fn register_in(config: Config, msg: &[u8]) -> RegisterRead
-    requires { lawful_of config ≡ true }
-    ensures { result ≡ register_of config msg.now (bit_of (head_of config msg.now).map 4) (head_of config msg.now).cursor }
-{
-    let head = read_head(config, msg);
-    let from = head.cursor;
-    read_register(config, msg, bit(head.map, 4), from)
+// What a message says beside its sheet.
+#[derive(Clone, Copy)]
+pub(crate) struct Found<'a> {
+    pub envelope: Envelope,
+    pub register: RegisterAt<'a>,
 }
 
-// What a message says, in one pass over its bytes, its ledger into arrays of zeros. `least` is the least weight above the floor.
-pub(crate) fn taken_in(
-    config: Config,
-    least: u64,
-    msg: &[u8],
-    counts: &mut [u16],
-    cells: &mut [u32],
-) -> Taken
-    requires { (lawful_of config ≡ true) × (least ≡ least_of config) × (counts.old ≡ replicate 16 0) × (cells.old ≡ replicate 256 0) }
-    ensures { (result ≡ taken_of config msg.now) × (counts.new ≡ (scan_of config msg.now).ledger.counts) × (cells.new ≡ (scan_of config msg.now).ledger.cells) }
+// 1 or 15 for the cluster, then the first fault of the message, or what it says; the counts and cells of its sheet are kept as they are read, and what each
+// server received and gave is added up.
+pub(crate) fn read_message<'a, K: Keep>(
+    config: &Config,
+    msg: &'a [u8],
+    keep: &mut K,
+    sums: &mut Tally,
+) -> Result<Found<'a>, Refusal>
+    requires { NoSums sums.old × K.keeps keep.old no_counts no_cells }
+    ensures ends { on_ok shown_found result ≡ found_answer config.now msg.now }
+    ensures adds { OnOk result (SumsOf (scan_of config.now msg.now).ledger sums.new) }
+    ensures keeps { K.keeps keep.new (counts_taken config.now msg.now) (cells_taken config.now msg.now) }
 {
-    let mut received: [u64; 16] = [0; 16];
-    let mut given: [u64; 16] = [0; 16];
-    let head = read_head(config, msg);
-    let after_head = head.cursor;
-    let register = read_register(config, msg, bit(head.map, 4), after_head);
-    let after_register = register.cursor;
-    let sheet = take_sheet(
-        config,
-        msg,
-        bit(head.map, 5),
-        after_register,
-        counts,
-        cells,
-        &mut received,
-        &mut given,
-    );
-    let note = read_number(msg, bit(head.map, 6), 4, 1, MOST_FOUR, sheet);
-    let end = finish(config, least, msg, &received, &given, note);
-    if end.number != 0 {
-        return untaken(refusal(end.number));
+    let least = config.least()?;
+    let head = read_head(config, msg)?;
+    let register = read_register(config, msg, bit(head.map, 4), head.at)?;
+    let at = read_sheet(config, msg, bit(head.map, 5), register.end, keep, sums)?;
+    let note = read_number(msg, bit(head.map, 6), 4, 1, MOST_FOUR, at)?;
+    if note.at != msg.len() {
+        return Err(Refusal::Torn);
     }
-    Taken {
-        verdict: Verdict::Accepted,
+    if !sums.above_floor(config, least) {
+        return Err(Refusal::Light);
+    }
+    Ok(Found {
         envelope: Envelope {
-            kind: head.kind as u8,
-            server: head.server as u8,
-            desk: head.desk as u16,
-            round: head.round as u32,
             note: note.x as u32,
+            ..head.envelope
         },
-        register: kept(msg, register),
-    }
-}
-
-// A message that is refused says nothing.
-pub(crate) fn untaken(refusal: Refusal) -> Taken
-    ensures { result ≡ untaken_of refusal }
-{
-    Taken {
-        verdict: Verdict::Refused(refusal),
-        envelope: Envelope::blank(),
-        register: Register::start(),
-    }
+        register,
+    })
 }

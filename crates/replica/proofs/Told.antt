@@ -1,10 +1,11 @@
 -- What the ledger's answer tells of a replica.
+use Rattle.std.specs.Prelude.{Err}
 use mathlib.Core.Path.{◌≡◌, refl}
 use mathlib.Core.Bool.{Bool, true, false, cond}
 use Rattle.config.specs.Cluster.{lawful_of}
 use Rattle.config.specs.declared.cluster.Config.{Config}
 use Rattle.config.specs.declared.answer.Refusal.{Refusal}
-use Rattle.config.specs.declared.answer.Verdict.{Verdict}
+use Rattle.config.specs.Refusals.{granted}
 use Rattle.ledger.specs.Checks.{bounded, above_floor, fits as ledger_fits, check_answer}
 use Rattle.ledger.proofs.Checks.{check-told, check-refused, ledger-told}
 use Rattle.replica.specs.declared.replica.Replica.{Replica}
@@ -12,7 +13,7 @@ use Rattle.replica.specs.Registers.{register_fits}
 use Rattle.replica.specs.Replicas.{fits}
 
 -- a replica whose ledger passes the check fits where its register does
-pub passed-fits : (c : Config) (r : Replica) → check_answer c r.ledger ≡ Verdict.Accepted → register_fits c r.register ≡ fits c r
+pub passed-fits : (c : Config) (r : Replica) → check_answer c r.ledger ≡ granted → register_fits c r.register ≡ fits c r
 unfolding fits
 passed-fits c r e =
     let t = check-told c r.ledger e in
@@ -20,7 +21,7 @@ passed-fits c r e =
     rw (t.0, l.0, l.1) refl
 
 -- and one whose ledger does not pass it does not fit
-pub refused-fits : (c : Config) (r : Replica) (k : Refusal) → check_answer c r.ledger ≡ Verdict.Refused k → false ≡ fits c r
+pub refused-fits : (c : Config) (r : Replica) (k : Refusal) → check_answer c r.ledger ≡ Err k → false ≡ fits c r
 unfolding fits ledger_fits
 refused-fits c r k e = by_lawful (lawful_of c) refl
   where

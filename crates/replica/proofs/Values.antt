@@ -1,16 +1,18 @@
 -- Laws of values: a value and its bytes tell each other, also with zeros after the bytes, and `same` compares the bytes.
-use Prim.Native.Nat.{ℕ, min, ◌≤◌, ◌<◌}
+use Prim.Native.Nat.{ℕ, min, ◌+◌, ◌-◌, ◌≤◌, ◌<◌}
 use native.Mathlib.Omega.{arith}
 use mathlib.Core.Path.{◌≡◌, refl, sym, ap, ◌∙◌}
 use mathlib.Core.Logic.{◌↔◌, ⊎_elim}
-use mathlib.Core.Bool.{true, false}
-use mathlib.Core.List.{List, []}
+use mathlib.Core.Bool.{true}
+use mathlib.Core.List.{List, [], ◌++◌}
 use lib.Dec.{eqb, leb}
-use lib.ListN.{length, get_or, take, length-take, get_or-eq_default}
+use lib.ListN.{length, get_or, take, drop, replicate, get_or-eq_default}
+use lib.Pointwise.{pointwise, bytes_decides}
+use Rattle.std.proofs.lemmas.List.{length-append, length-take, length-drop, length-replicate, get_or_append_left, get_or-append_right, get_or-drop, get_or-replicate}
 use lib.Seq.{get_or-take, ext_get_or, length-take-le}
-use borrow.Author.Tests.{eq-eqb, ne_eqb, eqb-true, lt-ltb, le-ltb, leb-true, le-leb, lt-leb}
+use borrow.Author.Tests.{eq-eqb, eqb-true, lt-ltb, le-ltb, leb-true, le-leb, lt-leb}
 use Rattle.quorums.specs.Sum.{all}
-use Rattle.quorums.proofs.Tests.{le-or-lt, both}
+use Rattle.quorums.proofs.Tests.{le-or-lt, both, one-test}
 use Rattle.quorums.proofs.Sums.{all-each, each_all}
 use Rattle.quorums.specs.Tables.{run, table}
 use Rattle.ledger.proofs.Fresh.{zeros}
@@ -118,9 +120,9 @@ pub trimmed-value : (l : List ℕ) → length l ≤ 64 → trimmed (value_of l) 
 trimmed-value l h = trimmed-is (value_of l) (omega (arith, value-length l h)) ∙ ap value_of (bytes-of-value l h)
 
 -- the first bytes, taken from an array of 64, are those of the value, and zeros come after both
-pub trimmed-lent : (v : Value) → Typed v → table 64 (λ k. get_or (take (min v.length 64) v.bytes) k 0) ≡ (trimmed v).bytes
+pub trimmed-lent : (v : Value) → table 64 (λ k. get_or (take (min v.length 64) v.bytes) k 0) ≡ (trimmed v).bytes
 unfolding trimmed
-trimmed-lent v t =
+trimmed-lent v =
     table_same 64 _ _
     (λ k l.
     ⊎_elim
@@ -141,19 +143,37 @@ same-past : (k n x y : ℕ) → n ≤ k → same_byte k n x y ≡ true
 unfolding same_byte
 same-past k n x y h = rw (le-ltb k n h)
 
--- two bytes of both that are the same, and two that differ
-pub same_alike : (k n x y : ℕ) → k < n → x ≡ y → same_byte k n x y ≡ true
-same_alike k n x y h e = (same-within k n x y h).1 e
+-- the bytes of two values of one length, taken from their arrays, are equal exactly where the values are the same at each byte
+pub same_slices : (a b : Value) → length a.bytes ≡ 64 → length b.bytes ≡ 64 → a.length ≡ b.length
+    → pointwise eqb (take (min a.length 64) a.bytes) (take (min b.length 64) b.bytes) ≡ all 64 (same_at a b)
+same_slices a b ta tb e = one-test _ _ told shown
+  where
+    xs : List ℕ
+    xs = take (min a.length 64) a.bytes
 
-pub same_not : (k n x y : ℕ) → k < n → (x ≡ y → ⊥) → same_byte k n x y ≡ false
-unfolding same_byte
-same_not k n x y h d = rw (lt-ltb k n h) (ne_eqb x y d)
+    ys : List ℕ
+    ys = take (min b.length 64) b.bytes
 
--- where all bytes of the first are the same, there are no others to compare
-pub same_rest : (a b : Value) (k : ℕ) → min a.length 64 ≤ k → all k (same_at a b) ≡ true → all 64 (same_at a b) ≡ true
-same_rest a b k h e =
-    each_all 64 (same_at a b) (λ m l.
-    ⊎_elim (λ (p : k ≤ m). same-past m a.length _ _ (omega arith)) (λ (p : m < k). all-each k (same_at a b) e m p) (le-or-lt k m))
+    told : pointwise eqb xs ys ≡ true → all 64 (same_at a b) ≡ true
+    told h =
+        each_all 64 (same_at a b) (λ k l.
+        ⊎_elim (λ (p : a.length ≤ k). same-past k a.length _ _ p)
+        (λ (p : k < a.length).
+        (same-within k a.length _ _ p).1
+        (sym (get_or-take (min a.length 64) a.bytes k 0 (omega arith))
+        ∙ ap (λ z. get_or z k 0) ((bytes_decides xs ys).0 h)
+        ∙ get_or-take (min b.length 64) b.bytes k 0 (omega arith)))
+        (le-or-lt a.length k))
+
+    shown : all 64 (same_at a b) ≡ true → pointwise eqb xs ys ≡ true
+    shown h =
+        (bytes_decides xs ys).1
+        (ext_get_or 0 xs ys (omega (arith, length-take (min a.length 64) a.bytes, length-take (min b.length 64) b.bytes, ta, tb, e))
+        (λ k l.
+        let m : k < min a.length 64 = omega (arith, length-take (min a.length 64) a.bytes) in
+        get_or-take (min a.length 64) a.bytes k 0 m
+        ∙ (same-within k a.length _ _ (omega arith)).0 (all-each 64 (same_at a b) h k (omega arith))
+        ∙ sym (get_or-take (min b.length 64) b.bytes k 0 (omega arith))))
 
 same-told : (a b : Value) → a.length ≤ 64 → same a b ≡ true → bytes_of a ≡ bytes_of b
 unfolding same
@@ -178,3 +198,20 @@ same-shown a b e =
 
 pub same_bytes : (a b : Value) → a.length ≤ 64 → (same a b ≡ true) ↔ (bytes_of a ≡ bytes_of b)
 same_bytes a b m = (same-told a b m, same-shown a b)
+
+-- ---- a value that is made of a slice
+
+-- the first bytes of a list in the place of as many zeros
+pub copied : (part : List ℕ) (end : ℕ) → end ≡ min (length part) 64 → take end part ++ drop end (replicate 64 0) ≡ table 64 (λ k. get_or part k 0)
+copied part end e =
+    is-table 64 _ _ (simp length-append (omega (arith, length-take end part, length-drop {A = ℕ} end (replicate 64 0), length-replicate {A = ℕ} 64 0)))
+    (λ k l.
+    ⊎_elim
+    (λ (p : end ≤ k).
+    get_or-append_right (take end part) (drop end (replicate 64 0)) end k 0 (omega (arith, length-take end part)) p
+    ∙ get_or-drop end (replicate 64 0) (k - end) 0
+    ∙ get_or-replicate 64 (end + (k - end)) 0 0 (omega arith)
+    ∙ sym (get_or-eq_default part 0 (omega arith)))
+    (λ (p : k < end).
+    get_or_append_left (take end part) (drop end (replicate 64 0)) 0 k (omega (arith, length-take end part)) ∙ get_or-take end part k 0 p)
+    (le-or-lt end k))

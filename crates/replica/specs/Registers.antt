@@ -3,6 +3,7 @@ use Rattle.std.specs.Prelude.{◌≤◌, Bool, true, false, cond, eqb, ltb, leb}
 use Rattle.config.specs.Cluster.{most_stamp}
 use Rattle.config.specs.declared.cluster.Config.{Config}
 use Rattle.replica.specs.declared.register.Register.{Register}
+use Rattle.replica.specs.declared.register.Tag.{Tag}
 use Rattle.replica.specs.Values.{empty_value, value_fits, same, trimmed as trimmed_value, Typed as TypedValue}
 
 -- the start: tag (0, 0), value empty
@@ -19,6 +20,10 @@ unfoldable pub register_fits : Config → Register → Bool
 register_fits c r =
     cond (is_start r) true
     (cond (leb 1 r.stamp) (cond (leb r.stamp (most_stamp c)) (cond (leb 1 r.desk) (value_fits r.value) false) false) false)
+
+-- the tag
+abbrev pub tag_of : Register → Tag
+tag_of r = record { stamp = r.stamp; desk = r.desk }
 
 -- whether the tag of a is below that of b
 unfoldable pub below : Register → Register → Bool

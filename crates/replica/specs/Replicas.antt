@@ -1,6 +1,8 @@
 -- A ledger and a register (paper 01: pair), and their join: sheets join, and the higher tag is taken.
-use Rattle.std.specs.Prelude.{ℕ, Bool, false, cond}
+use Rattle.std.specs.Prelude.{ℕ, Bool, false, cond, Result, Err}
 use Rattle.config.specs.Cluster.{lawful_of}
+use Rattle.config.specs.Refusals.{refusal}
+use Rattle.config.specs.declared.answer.Refusal.{Refusal}
 use Rattle.config.specs.declared.cluster.Config.{Config}
 use Rattle.ledger.specs.declared.join.Compared.{Compared}
 use Rattle.ledger.specs.Ledgers.{fresh_ledger, Typed as TypedLedger}
@@ -28,9 +30,8 @@ unfoldable pub join : Replica → Replica → Replica
 join a b = record { ledger = joined a.ledger b.ledger; register = higher a.register b.register }
 
 -- How two replicas of a cluster of n servers compare: by their ledgers, and they do not join where equal tags have other values.
-unfoldable pub compared_of : ℕ → Replica → Replica → Compared
-compared_of n a b =
-    cond (agree a.register b.register) (ledgers_compared n a.ledger b.ledger) (record { joins = false; lacks = false; ahead = false })
+unfoldable pub compared_of : ℕ → Replica → Replica → Result Compared Refusal
+compared_of n a b = cond (agree a.register b.register) (ledgers_compared n a.ledger b.ledger) (Err (refusal 6))
 
 -- A replica that a call can have.
 pub record Typed (r : Replica) : Type 0 where

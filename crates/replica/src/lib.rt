@@ -6,6 +6,6 @@ mod register;
 mod replica;
 mod value;
 
-pub use register::Register;
-pub use replica::{Replica, compare_lent, fits_lent};
+pub use register::{Register, Tag};
+pub use replica::Replica;
 pub use value::{MOST_VALUE, Value};

@@ -1,11 +1,11 @@
 // The value of a register: up to 64 bytes.
-ghost use Rattle.std.specs.Prelude.{◌≡◌, ◌≤◌, min};
+ghost use Rattle.std.specs.Prelude.{◌≡◌, ◌≤◌, length, min, take};
 ghost use Rattle.replica.specs.Values.{value_fits, value_of, empty_value, trimmed as trimmed_of, same as same_of};
 
 // The most bytes that a value has.
 pub const MOST_VALUE: u16 = 64;
 
-// The first `length` of the bytes. Those after them mean nothing; what a call stores has zeros there.
+// The first `length` of the bytes. Those after them mean nothing; what a call stores has zeros there. A length beside its array: the record is C's too.
 #[repr(C)]
 #[derive(Clone, Copy)]
 pub struct Value {
@@ -25,8 +25,9 @@ impl Value {
     }
 
     // Whether this value may be held, written and sent: it has at most 64 bytes.
-    pub fn fits(self) -> bool
-        ensures { result ≡ value_fits self }
+    #[tactic(auto, unfolding(crate::specs::Values::value_fits))]
+    pub fn fits(&self) -> bool
+        ensures { result ≡ value_fits self.now }
     {
         self.length <= MOST_VALUE
     }
@@ -35,26 +36,26 @@ impl Value {
     pub fn of(part: &[u8]) -> Value
         ensures { result ≡ value_of part.now }
     {
-        let end = short(part.len());
-        let mut bytes: [u8; 64] = [0; 64];
-        let mut k: usize = 0;
-        while k < end {
-            bytes[k] = part[k];
-            k += 1;
-        }
-        Value {
-            length: told(part.len()),
-            bytes,
-        }
+        let end = part.len().min(64);
+        let mut bytes = [0; 64];
+        bytes[..end].copy_from_slice(&part[..end]);
+        let length = part.len().min(65) as u16;
+        Value { length, bytes }
+    }
+
+    // The bytes: as many as the length says, and no more than there are.
+    pub fn bytes(&self) -> &[u8]
+        ensures { (result.now ≡ take (min self.now.length 64) self.now.bytes) × (length result.now ≡ min self.now.length 64) }
+    {
+        let end = usize::from(self.length).min(64);
+        &self.bytes[..end]
     }
 
     // The same value with zeros after its bytes.
-    pub fn trimmed(self) -> Value
-        ensures { result ≡ trimmed_of self }
+    pub fn trimmed(&self) -> Value
+        ensures { result ≡ trimmed_of self.now }
     {
-        let bytes = self.bytes;
-        let end = short(self.length as usize);
-        let kept = Value::of(&bytes[..end]);
+        let kept = Value::of(self.bytes());
         let bytes = kept.bytes;
         Value {
             length: self.length,
@@ -63,40 +64,9 @@ impl Value {
     }
 
     // Whether two values have the same bytes.
-    pub fn same(self, other: Value) -> bool
-        ensures { result ≡ same_of self other }
+    pub fn same(&self, other: &Value) -> bool
+        ensures { result ≡ same_of self.now other.now }
     {
-        if self.length != other.length {
-            return false;
-        }
-        let end = short(self.length as usize);
-        let mut k: usize = 0;
-        while k < end {
-            if self.bytes[k] != other.bytes[k] {
-                return false;
-            }
-            k += 1;
-        }
-        true
+        self.length == other.length && self.bytes() == other.bytes()
     }
-}
-
-// The length that a value of so many bytes has: 65 where they are too many.
-fn told(length: usize) -> u16
-    ensures { result ≡ min length 65 }
-{
-    if 64 < length {
-        return MOST_VALUE + 1;
-    }
-    length as u16
-}
-
-// A length, or 64 where it is more.
-fn short(length: usize) -> usize
-    ensures { (result ≡ min length 64) × (result ≤ 64) }
-{
-    if 64 < length {
-        return 64;
-    }
-    length
 }

@@ -13,7 +13,7 @@ use Rattle.quorums.specs.Accounts.{weight_in}
 use Rattle.quorums.proofs.Sums.{sum_same, sum-const}
 use Rattle.config.specs.Cluster.{House, config_of, house_fault, level, total_of, above_of}
 use Rattle.config.specs.declared.cluster.Config.{Config}
-use Rattle.config.specs.declared.answer.Verdict.{Verdict}
+use Rattle.config.specs.Refusals.{granted}
 use Rattle.config.proofs.Houses.{house-told}
 use Rattle.ledger.specs.declared.ledger.Ledger.{Ledger}
 use Rattle.ledger.specs.Ledgers.{count_of}
@@ -255,7 +255,7 @@ module _ (house : House) (none : house_fault house ≡ 0) (steps : List Step) (t
 
     -- a message sent passes its checks, and its sheet is such a one
     pub message-weighed : (q : ℕ) (msg : List ℕ) → nth (at p k).sent q ≡ some msg
-        → ((receive_of c msg).verdict ≡ Verdict.Accepted) × Weighed W c (ledger_in c msg)
+        → ((receive_of c msg).verdict ≡ granted) × Weighed W c (ledger_in c msg)
     message-weighed q msg e = (d3.sheets.readable k q msg e, weighed _ (d3.sheets.sound k _ (by-message q msg e refl)))
 
   -- and the machine's sets

@@ -1,4 +1,5 @@
 -- A desk does what the machine's does: begin, ask, result and drop, on the record for what the machine's desk is.
+use Rattle.std.specs.Prelude.{Ok, Err}
 use Prim.Native.Nat.{ℕ, ◌≤◌, ◌<◌}
 use native.Mathlib.Omega.{arith}
 use mathlib.Core.Path.{◌≡◌, refl, sym, ap, ap₂, ◌∙◌}
@@ -27,7 +28,7 @@ use Rattle.desk.specs.Operations.{running as running_mode, ended as ended_mode, 
 use Rattle.desk.specs.Desks.{number_lawful, fits, accepted, refused}
 use Rattle.desk.specs.Begins.{begun, begin_of, start_of, dropped, drop_of}
 use Rattle.desk.specs.Asks.{unwritten, ask_of}
-use Rattle.desk.specs.Results.{told as told_of, refused as untold, result_of}
+use Rattle.desk.specs.Results.{told as told_of, result_of}
 use Rattle.desk.proofs.Marks.{marked-names, marked-map}
 use Rattle.desk.proofs.Operations.{told-operation, mode-later, kind_fits, none-answered, none-fits}
 use Rattle.desk.proofs.Desks.{told-fits}
@@ -216,13 +217,13 @@ module _ (c : Config) (valid : lawful_of c ≡ true) (sent : List Message) (d : 
       called a = record { answer = a; party = desk_for c d x; sent = [] }
 
       by_kind : (b : Bool) (g : Register) (restarts : ℕ) → plain_register (trimmed (register_for g)) ≡ g
-          → told_answer (told_of (operation_for (ended (record { is-write = b; register = g; restarts = restarts }))))
+          → told_answer (Ok (told_of (operation_for (ended (record { is-write = b; register = g; restarts = restarts })))))
           ≡ told (record { is-write = b; register = g; restarts = restarts })
       by_kind true g restarts e = ap (λ r. told (record { is-write = true; register = r; restarts = restarts })) e
       by_kind false g restarts e = ap (λ r. told (record { is-write = false; register = r; restarts = restarts })) e
 
       by-activity : (a : Activity) → ((y : Result) → a ≡ ended y → RegisterRange c y.register)
-          → called (told_answer (cond (eqb (operation_for a).mode ended_mode) (told_of (operation_for a)) (untold (refusal 9))))
+          → called (told_answer (cond (eqb (operation_for a).mode ended_mode) (Ok (told_of (operation_for a))) (Err (refusal 9))))
           ≡ called_for c (desk_for c d) (if-ended a (λ y. accept (told y) x) (refuse 9 x))
       by-activity idle r = refl
       by-activity (running o) r = refl

@@ -12,7 +12,7 @@ use Rattle.config.proofs.Houses.{level-fault}
 use Rattle.quorums.specs.Sum.{sum, sum_in, size}
 use Rattle.config.specs.Cluster.{level, house_fault, above_of, House, config_of}
 use Rattle.config.specs.declared.cluster.Config.{Config}
-use Rattle.config.specs.declared.answer.Verdict.{Verdict}
+use Rattle.config.specs.Refusals.{granted}
 use Rattle.ledger.specs.declared.ledger.Ledger.{Ledger}
 use Rattle.ledger.specs.Maps.{named}
 use Rattle.ledger.specs.Weights.{weight_of, all_of, quorum_of}
@@ -176,7 +176,7 @@ unfolding named size sum_in sum
 sheet l w = record { total = w.total ∙ ap pos (level-listed 2 0); floor = (w.floor 0 (omega arith), w.floor 1 (omega arith)); quorum = w.majority 3 (omega arith) }
 
 -- so it is where a reply brings it, where server 1 holds it, and where desk 1 does
-pub sent-sheet : ((receive_of cluster first_reply).verdict ≡ Verdict.Accepted) × Sheet (ledger_in cluster first_reply)
+pub sent-sheet : ((receive_of cluster first_reply).verdict ≡ granted) × Sheet (ledger_in cluster first_reply)
 sent-sheet =
     let w = message-weighed two taken steps typed 13 1 first_reply (ap (λ l. nth l 1) bytes-are) in
     (w.0, sheet _ w.1)

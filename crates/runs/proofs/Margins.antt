@@ -1,5 +1,6 @@
 -- What desk staff see in a run (paper 02, N1): `margin` tells what the plain machine shows. While an operation of a desk runs, that is a number that is never
 -- above zero and never below −W; otherwise it is 9. To ask for it is no step: it changes nothing.
+use Rattle.std.specs.Prelude.{Ok, Err}
 use Prim.Native.Nat.{ℕ, ◌≤◌}
 use native.Mathlib.Omega.{arith}
 use mathlib.Core.Path.{◌≡◌, refl, sym, ap, ◌∙◌, subst}
@@ -13,7 +14,7 @@ use Rattle.quorums.proofs.Margins.{lacks}
 use Rattle.config.specs.Cluster.{House, config_of, lawful_of, total_of}
 use Rattle.config.specs.Refusals.{refusal}
 use Rattle.config.specs.declared.cluster.Config.{Config}
-use Rattle.config.specs.declared.answer.Signed.{Signed}
+use Rattle.config.specs.Refusals.{Signed}
 use Rattle.ledger.specs.Weights.{margin_of as margin_on}
 use Rattle.desk.specs.declared.record.Desk.{Desk}
 use Rattle.desk.specs.Operations.{running as running_mode}
@@ -37,18 +38,18 @@ use Rattle.runs.proofs.Simulation.{stands_at}
 
 -- a number, or 9 for none
 abbrev pub shown_as : Option ℤ → Signed
-shown_as none = Signed.Refused (refusal 9)
-shown_as (some y) = Signed.Value y
+shown_as none = Err (refusal 9)
+shown_as (some y) = Ok y
 
 -- While an operation runs, a number is told that is below zero by at most W; otherwise 9.
 pub record Below (c : Config) (x : Desk) : Type 0 where
   pub by : ℕ
-  pub told : margin_of x ≡ Signed.Value (difference 0 by)
+  pub told : margin_of x ≡ Ok (difference 0 by)
   pub most : by ≤ total_of c
 
 pub record Shows (c : Config) (x : Desk) : Type 0 where
   pub runs : x.operation.mode ≡ running_mode → Below c x
-  pub rests : (x.operation.mode ≡ running_mode → ⊥) → margin_of x ≡ Signed.Refused (refusal 9)
+  pub rests : (x.operation.mode ≡ running_mode → ⊥) → margin_of x ≡ Err (refusal 9)
 
 module _ (house : House) (lawful : lawful_of (config_of house) ≡ true) (steps : List Step) (typed : Typed steps) where
   abbrev c : Config
@@ -71,7 +72,7 @@ module _ (house : House) (lawful : lawful_of (config_of house) ≡ true) (steps 
     -- what is told then, where a is what it does
     abbrev tested : Activity → Signed
     tested a =
-        cond (eqb (operation_for a).mode running_mode) (Signed.Value (margin_on c (ledger_for set) (operation_for a).answered)) (Signed.Refused (refusal 9))
+        cond (eqb (operation_for a).mode running_mode) (Ok (margin_on c (ledger_for set) (operation_for a).answered)) (Err (refusal 9))
 
     told_of : margin_of (desk_for c d x) ≡ tested x.activity
     unfolding margin_of
@@ -85,7 +86,7 @@ module _ (house : House) (lawful : lawful_of (config_of house) ≡ true) (steps 
         by-activity : (a : Activity) → tested a ≡ shown_as (if-running a (λ o. some (plain_margin c set (answered o.heard))) none)
         by-activity idle = refl
         by-activity (running o) =
-            ap Signed.Value
+            ap Ok
             (margin-for c lawful set (desk-held house lawful steps typed k d).range.set (map_for o.heard) (answered o.heard) (λ i l. map-names o.heard i))
         by-activity (ended y) = refl
 
@@ -94,9 +95,9 @@ module _ (house : House) (lawful : lawful_of (config_of house) ≡ true) (steps 
     below o e =
         let y = plain_margin c set (answered o.heard) in
         let by-machine : margin_by c x ≡ some y = ap (λ a. if-running a (λ o. some (plain_margin c set (answered o.heard))) none) e in
-        let told : margin_of (desk_for c d x) ≡ Signed.Value y = same ∙ ap shown_as by-machine in
+        let told : margin_of (desk_for c d x) ≡ Ok y = same ∙ ap shown_as by-machine in
         let z = lacks (total_of c) y (told-within (desk_for c d x) y told).least (shown-below house (map plain steps) d k y by-machine) in
-        record { by = z.by; told = told ∙ ap Signed.Value z.is; most = z.most }
+        record { by = z.by; told = told ∙ ap Ok z.is; most = z.most }
 
     shows : (a : Activity) → x.activity ≡ a → Shows c (desk_for c d x)
     shows idle e =

@@ -1,5 +1,6 @@
 -- A message of the machine and the program's: what is sent is the byte table at the message's fields, reading it finds the record for each field again,
 -- and a replica that is held joins with one that was sent.
+use Rattle.std.specs.Prelude.{Ok}
 use Prim.Native.Nat.{ℕ, ◌+◌, ◌≤◌}
 use native.Mathlib.Nat.{le_refl}
 use native.Mathlib.Omega.{arith}
@@ -11,8 +12,7 @@ use lib.Dec.{leb}
 use lib.ListN.{length}
 use Rattle.config.specs.Cluster.{lawful_of}
 use Rattle.config.specs.declared.cluster.Config.{Config}
-use Rattle.config.specs.declared.answer.Number.{Number}
-use Rattle.config.specs.declared.answer.Verdict.{Verdict}
+use Rattle.config.specs.Refusals.{granted}
 use Rattle.config.proofs.Clusters.{lawful-bounds}
 use Rattle.ledger.specs.Checks.{above_floor}
 use Rattle.format.specs.Table.{encode_fields}
@@ -23,7 +23,7 @@ use Rattle.message.specs.Cursors.{within}
 use Rattle.message.specs.Faults.{kind_number_fits, lawful}
 use Rattle.message.specs.Answers.{fits as room, place, between, receive_of}
 use Rattle.replica.specs.declared.replica.Replica.{Replica as Kept}
-use Rattle.message.specs.declared.answer.Received.{Received}
+use Rattle.message.specs.Answers.{Received}
 use Rattle.replica.specs.Replicas.{fits, joinable, join, Typed}
 use Rattle.replica.proofs.Replicas.{told-fits, told-joinable}
 use Rattle.message.proofs.Lawful.{told-lawful}
@@ -148,18 +148,18 @@ module _ (c : Config) (valid : lawful_of c ≡ true) (m : Message) (h : HeadRang
       }
 
   -- reading them finds the message again
-  pub received-for : receive_of c (bytes_of c m) ≡ record { verdict = Verdict.Accepted; envelope = envelope_for m; replica = replica_for m.replica }
+  pub received-for : receive_of c (bytes_of c m) ≡ record { verdict = granted; envelope = envelope_for m; replica = replica_for m.replica }
   received-for =
       ap (receive_of c) (sym (message-for c m k.range.register))
       ∙ received-back c (envelope_for m) (replica_for m.replica) envelope-typed (replica-typed c valid m.replica k) envelope-lawful
       (replica-fits c valid m.replica k)
-      ∙ ap {B = Received} (λ g. record { verdict = Verdict.Accepted; envelope = envelope_for m; replica = record { ledger = ledger_for m.replica.set; register = g } })
+      ∙ ap {B = Received} (λ g. record { verdict = granted; envelope = envelope_for m; replica = record { ledger = ledger_for m.replica.set; register = g } })
       (trimmed-for c m.replica.register k.range.register)
 
 -- ---- a message written into a buffer
 
 -- who hands back the place that it was given wrote nothing, and sends nothing
-pub nothing-sent : (out : List ℕ) (at : ℕ) → sent_by (Number.Value at) out at ≡ []
+pub nothing-sent : (out : List ℕ) (at : ℕ) → sent_by (Ok at) out at ≡ []
 nothing-sent out at = ap (λ b. cond b (between out at at ∷ []) []) (le-ltb at at (le_refl at))
 
 module _ {A : Type 0} (c : Config) (old new : A) (m : Message) (at : ℕ) (out : List ℕ) where

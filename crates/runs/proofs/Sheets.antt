@@ -7,7 +7,7 @@ use mathlib.Core.List.{List, map}
 use mathlib.Core.Option.{Option, none, some, none-ne-some, some-injective}
 use Rattle.config.specs.Cluster.{House, config_of, lawful_of, above_of}
 use Rattle.config.specs.declared.cluster.Config.{Config}
-use Rattle.config.specs.declared.answer.Verdict.{Verdict}
+use Rattle.config.specs.Refusals.{granted}
 use Rattle.ledger.specs.declared.ledger.Ledger.{Ledger}
 use Rattle.ledger.specs.Maps.{named}
 use Rattle.message.specs.Answers.{receive_of}
@@ -70,7 +70,7 @@ module _ (house : House) (lawful : lawful_of (config_of house) ≡ true) (steps 
 
   module _ (k q : ℕ) (m : Message) (e : nth (at r k).sent q ≡ some m) where
     -- they pass their checks, and carry the ledger for the message's set
-    pub sent-passes : (receive_of c (bytes_of c m)).verdict ≡ Verdict.Accepted
+    pub sent-passes : (receive_of c (bytes_of c m)).verdict ≡ granted
     sent-passes = ap (λ x. x.verdict) (received-for c lawful m (message-head house lawful steps typed k q m e) (message-held house lawful steps typed k q m e))
 
     pub sent-carries : ledger_in c (bytes_of c m) ≡ ledger_for m.replica.set

@@ -1,12 +1,11 @@
 -- What a call of the program comes to in a run: its answer, the record handed back or left in the lent place, and the bytes sent. Each is read off the
 -- definition that the function's contract cites. Answers are written as the plain machine writes them (paper 01: a step's answer is its number, "late", or
 -- accepted with all that the call hands back besides its record).
-use Rattle.std.specs.Prelude.{ℕ, true, false, cond, List, [], ◌∷◌, eqb, ltb}
+use Rattle.std.specs.Prelude.{ℕ, true, false, cond, List, [], ◌∷◌, eqb, ltb, Result, Ok, Err}
 use Rattle.config.specs.Refusals.{by-verdict, number_of}
 use Rattle.config.specs.declared.answer.Refusal.{Refusal}
-use Rattle.config.specs.declared.answer.Verdict.{Verdict}
-use Rattle.config.specs.declared.answer.Number.{Number}
-use Rattle.config.specs.declared.answer.Number.TheVariants.{Value as NumberValue, Refused as NumberRefused}
+use Rattle.config.specs.Refusals.{Verdict}
+use Rattle.config.specs.Refusals.{Number}
 use Rattle.replica.specs.declared.register.Register.{Register}
 use Rattle.replica.specs.Values.{bytes_of}
 use Rattle.message.specs.Answers.{Written, between}
@@ -18,7 +17,7 @@ use Rattle.server.specs.Serves.{serve_of, Outcome as Served}
 use Rattle.desk.specs.declared.record.Desk.{Desk}
 use Rattle.desk.specs.declared.record.DeskAnswer.{DeskAnswer}
 use Rattle.desk.specs.declared.record.Hearing.{Hearing}
-use Rattle.desk.specs.declared.record.Hearing.TheVariants.{Accepted as HearingAccepted, Late as HearingLate, Refused as HearingRefused}
+use Rattle.desk.specs.declared.record.Hearing.TheVariants.{Taken, Late}
 use Rattle.desk.specs.declared.result.Told.{Told}
 use Rattle.desk.specs.Operations.{reading, writing}
 use Rattle.desk.specs.Begins.{begin_of, drop_of}
@@ -32,8 +31,8 @@ use Rattle.machine.specs.Runs.{Answer, unmade, late, refused, done, wrote, told,
 
 -- what is done with a number handed back, and for a refusal
 abbrev pub by_number : {A : Type 0} → Number → (ℕ → A) → (Refusal → A) → A
-by_number (NumberValue x) f g = f x
-by_number (NumberRefused k) f g = g k
+by_number (Ok x) f g = f x
+by_number (Err k) f g = g k
 
 abbrev pub verdict_answer : Verdict → Answer
 verdict_answer v = by-verdict v done (λ k. refused (number_of k))
@@ -41,22 +40,21 @@ verdict_answer v = by-verdict v done (λ k. refused (number_of k))
 abbrev pub number_answer : Number → Answer
 number_answer x = by_number x (λ next. wrote next) (λ k. refused (number_of k))
 
-abbrev pub hearing_answer : Hearing → Answer
-hearing_answer HearingAccepted = done
-hearing_answer HearingLate = late
-hearing_answer (HearingRefused k) = refused (number_of k)
+abbrev pub hearing_answer : Result Hearing Refusal → Answer
+hearing_answer (Ok Taken) = done
+hearing_answer (Ok Late) = late
+hearing_answer (Err k) = refused (number_of k)
 
 -- a register as a tag and the bytes of its value
 abbrev pub plain_register : Register → PlainRegister
 plain_register g = record { stamp = g.stamp; desk = g.desk; value = bytes_of g.value }
 
 -- a result: kind, tag, value and restarts; a kind that is neither read nor write would be no answer of the machine's
-abbrev pub told_answer : Told → Answer
-told_answer t =
-    by-verdict t.verdict
-    (cond (eqb t.kind reading) (told (record { is-write = false; register = plain_register t.register; restarts = t.restarts }))
-    (cond (eqb t.kind writing) (told (record { is-write = true; register = plain_register t.register; restarts = t.restarts })) unmade))
-    (λ k. refused (number_of k))
+abbrev pub told_answer : Result Told Refusal → Answer
+told_answer (Ok t) =
+    cond (eqb t.kind reading) (told (record { is-write = false; register = plain_register t.register; restarts = t.restarts }))
+    (cond (eqb t.kind writing) (told (record { is-write = true; register = plain_register t.register; restarts = t.restarts })) unmade)
+told_answer (Err k) = refused (number_of k)
 
 -- ---- what a call comes to
 

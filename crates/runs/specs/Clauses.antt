@@ -5,7 +5,7 @@ use Rattle.std.proofs.Math.Option.{some}
 use Rattle.quorums.specs.Sum.{size}
 use Rattle.config.specs.Cluster.{House, house_fault, total_of, above_of}
 use Rattle.config.specs.declared.cluster.Config.{Config}
-use Rattle.config.specs.declared.answer.Verdict.{Verdict}
+use Rattle.config.specs.Refusals.{granted}
 use Rattle.ledger.specs.declared.ledger.Ledger.{Ledger}
 use Rattle.ledger.specs.Maps.{named}
 use Rattle.ledger.specs.Weights.{weight_of, all_of, quorum_of}
@@ -47,7 +47,7 @@ pub record Sound (c : Config) (l : Ledger) : Type 0 where
 -- So it is on every sheet held or sent; and every message sent passes its checks.
 pub record Sheets (r : ProgramRun) : Type 0 where
   pub sound : (k : ℕ) (l : Ledger) → Found r k l → Sound (config r) l
-  pub readable : (k p : ℕ) (msg : List ℕ) → nth (at r k).sent p ≡ some msg → (receive_of (config r) msg).verdict ≡ Verdict.Accepted
+  pub readable : (k p : ℕ) (msg : List ℕ) → nth (at r k).sent p ≡ some msg → (receive_of (config r) msg).verdict ≡ granted
 
 -- ---- the whole
 

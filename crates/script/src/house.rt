@@ -1,7 +1,7 @@
 // Houses as lines give them (paper 02, N2): n, f and a list of start weights.
-ghost use Rattle.std.specs.Prelude.{◌≡◌, ◌≤◌, min, replicate};
+ghost use Rattle.std.specs.Prelude.{◌≡◌, ◌≤◌, length, min, replicate, take};
 
-use super::text::{Parsed, decimal, find, same};
+use super::text::decimal;
 
 // The most start weights that are kept. No house has as many servers: n above 16 is refused before its list is looked at, and for any other n a list of 17
 // is as little n long as a longer one. So what is kept of a longer list gets the answers of the whole.
@@ -10,82 +10,62 @@ pub const MOST_STARTS: usize = 17;
 // What a server starts at in a house that begins level.
 const LEVEL: u64 = 1000;
 
-// The numbers n and f, the start weights that are kept, and how many the list has.
+// A list of numbers: those that are kept, at the front of the entries, and how many there are, since there is no heap.
+#[derive(Clone, Copy)]
+pub struct List {
+    pub entries: [u64; MOST_STARTS],
+    pub count: usize,
+}
+
+impl List {
+    // The list that a word stands for: numbers with commas between them, `-` for none.
+    pub(crate) fn of(word: &[u8]) -> Option<List> {
+        let mut list = List {
+            entries: [0; MOST_STARTS],
+            count: 0,
+        };
+        if word == b"-".as_slice() {
+            return Some(list);
+        }
+        for (k, part) in word.split(|c| *c == b',').enumerate() {
+            let entry = decimal(part)?;
+            if k < MOST_STARTS {
+                list.entries[k] = entry;
+            }
+            list.count = k + 1;
+        }
+        Some(list)
+    }
+}
+
+// The numbers n and f, and the start weights.
 #[derive(Clone, Copy)]
 pub struct House {
     pub n: u64,
     pub f: u64,
-    pub starts: [u64; MOST_STARTS],
-    pub count: usize,
+    pub starts: List,
 }
 
 impl House {
     // The house that begins level.
     pub fn level(n: u64, f: u64) -> House
-        ensures { (result.n ≡ n) × (result.f ≡ f) × (result.starts ≡ replicate 17 1000) × (result.count ≡ n) }
+        ensures { (result.n ≡ n) × (result.f ≡ f) × (result.starts.entries ≡ replicate 17 1000) × (result.starts.count ≡ n) }
     {
         House {
             n,
             f,
-            starts: [LEVEL; MOST_STARTS],
-            count: n as usize,
+            starts: List {
+                entries: [LEVEL; MOST_STARTS],
+                count: n as usize,
+            },
         }
     }
 
-    // How many start weights are kept.
-    pub fn kept(self) -> usize
-        ensures { (result ≡ min self.count 17) × (result ≤ 17) }
+    // The start weights that are kept.
+    pub fn kept(&self) -> &[u64]
+        ensures { (result.now ≡ take (min self.now.starts.count 17) self.now.starts.entries) × (length result.now ≡ min self.now.starts.count 17) }
     {
-        if MOST_STARTS < self.count {
-            return MOST_STARTS;
-        }
-        self.count
-    }
-}
-
-// Whether a word stands for a list, the entries that are kept, and how many it has.
-#[derive(Clone, Copy)]
-pub(crate) struct List {
-    pub ok: bool,
-    pub entries: [u64; MOST_STARTS],
-    pub count: usize,
-}
-
-// The empty list.
-pub(crate) fn no_list() -> List {
-    List {
-        ok: true,
-        entries: [0; MOST_STARTS],
-        count: 0,
-    }
-}
-
-// The list that a word stands for: numbers with commas between them, `-` for none.
-pub(crate) fn list_of(word: &[u8]) -> List {
-    if same(word, b"-") {
-        return no_list();
-    }
-    let mut entries: [u64; MOST_STARTS] = [0; MOST_STARTS];
-    let mut count: usize = 0;
-    let mut at: usize = 0;
-    while at <= word.len() {
-        let end = find(word, at, b',');
-        let Parsed::Value(entry) = decimal(&word[at..end]) else {
-            return List {
-                ok: false,
-                entries,
-                count,
-            };
-        };
-        if count < MOST_STARTS {
-            entries[count] = entry;
-        }
-        count += 1;
-        at = end + 1;
-    }
-    List {
-        ok: true,
-        entries,
-        count,
+        let end = self.starts.count.min(MOST_STARTS);
+        &self.starts.entries[..end]
     }
 }

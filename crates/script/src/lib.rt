@@ -1,4 +1,4 @@
-// The lines of a script (docs/SCRIPTS.md): what a line asks for, as a command, the house that it gives, and the bytes that it brings.
+// The lines of a script (docs/SCRIPTS.md): what a line asks for, as a command, and the bytes that it brings.
 #![tactic(auto)]
 
 mod command;
@@ -8,6 +8,6 @@ mod line;
 mod text;
 
 pub use command::{Command, DeskCall, Query, ServerCall};
-pub use house::House;
-pub use line::{Understood, understand};
+pub use house::{House, List};
+pub use line::{Fault, Understood, understand};
 pub use text::{MOST_BYTES, SPACE};

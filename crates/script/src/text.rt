@@ -1,133 +1,72 @@
 // The words of a line, and what they stand for.
-ghost use Rattle.std.specs.Prelude.{◌≡◌, ◌≤◌, ◌<◌, length};
+ghost use Rattle.std.specs.Prelude.{◌≡◌, length};
+ghost use Rattle.std.specs.Iterator.{at_most};
 
 // The most bytes that a line may bring, and that a buffer may have.
 pub const MOST_BYTES: usize = 2048;
 
 // Room for a line's bytes and one more.
-pub const SPACE: usize = 2049;
-
-// A number, if a text stands for one.
-#[derive(Clone, Copy)]
-pub(crate) enum Parsed {
-    Value(u64),
-    Bad,
-}
-
-// The first place from `from` on that has the byte, or the end.
-pub(crate) fn find(text: &[u8], from: usize, byte: u8) -> usize
-    requires { from ≤ length text.now }
-    ensures { (from ≤ result) × (result ≤ length text.now) }
-{
-    let mut at = from;
-    while at < text.len() {
-        if text[at] == byte {
-            return at;
-        }
-        at += 1;
-    }
-    at
-}
+pub const SPACE: usize = MOST_BYTES + 1;
 
 // What words stand apart by.
-fn is_space(c: u8) -> bool {
-    match c {
-        b' ' | b'\t' | b'\r' => true,
-        _ => false,
+fn is_space(c: &u8) -> bool {
+    matches!(*c, b' ' | b'\t' | b'\r')
+}
+
+// The words of a text, first to last: what is left of it.
+#[derive(Clone, Copy)]
+pub(crate) struct Words<'a>(pub &'a [u8]);
+
+impl<'a> Iterator for Words<'a> {
+    type Item = &'a [u8];
+
+    ghost remaining = { λ s. at_most (length s.0.now) };
+
+    fn next(&mut self) -> Option<&'a [u8]> {
+        let from = self.0.iter().position(|c| !is_space(c))?;
+        let mut parts = self.0[from..].splitn(2, is_space);
+        let word = parts.next()?;
+        self.0 = parts.next().unwrap_or(&[]);
+        Some(word)
     }
 }
 
-// The first place from `from` on that is past spaces, or past what is no space; or the end.
-pub(crate) fn skip(text: &[u8], from: usize, spaces: bool) -> usize
-    requires { from ≤ length text.now }
-    ensures { (from ≤ result) × (result ≤ length text.now) }
-{
-    let mut at = from;
-    while at < text.len() {
-        if is_space(text[at]) != spaces {
-            return at;
-        }
-        at += 1;
-    }
-    at
-}
-
-pub(crate) fn same(a: &[u8], b: &[u8]) -> bool {
-    if a.len() != b.len() {
-        return false;
-    }
-    let mut k: usize = 0;
-    while k < a.len() {
-        if a[k] != b[k] {
-            return false;
-        }
-        k += 1;
-    }
-    true
-}
-
-// What a hex digit stands for; 16 where it is none.
-fn digit(c: u8) -> u8 {
-    match c {
-        b'0'..=b'9' => c - b'0',
-        b'A'..=b'F' => c - b'A' + 10,
-        b'a'..=b'f' => c - b'a' + 10,
-        _ => 16,
-    }
-}
-
-// The number that a word of decimal digits stands for, if 64 bits hold it.
-pub(crate) fn decimal(word: &[u8]) -> Parsed {
-    if word.len() == 0 {
-        return Parsed::Bad;
+// The number that a word of decimal digits stands for, if 64 bits hold it. The library's `parse` would take a sign too.
+pub(crate) fn decimal(word: &[u8]) -> Option<u64> {
+    if word.is_empty() {
+        return None;
     }
     let mut x: u64 = 0;
-    let mut k: usize = 0;
-    while k < word.len() {
-        let d = digit(word[k]) as u64;
-        if 9 < d {
-            return Parsed::Bad;
-        }
-        if (u64::MAX - d) / 10 < x {
-            return Parsed::Bad;
-        }
-        x = x * 10 + d;
-        k += 1;
+    for c in word {
+        let digit = char::from(*c).to_digit(10)?;
+        x = x.checked_mul(10)?.checked_add(u64::from(digit))?;
     }
-    Parsed::Value(x)
+    Some(x)
 }
 
-// The bytes that the text from `from` on stands for, into the front of `out`, and how many these are. Of more than MOST_BYTES the rest is counted and
-// left out.
-pub(crate) fn decode(text: &[u8], from: usize, out: &mut [u8; SPACE]) -> Parsed
-    requires { from < length text.now }
-    ensures { length out.new ≡ length out.old }
-{
-    if text[from] == b'-' {
-        if skip(text, from + 1, true) < text.len() {
-            return Parsed::Bad;
-        }
-        return Parsed::Value(0);
+// The byte that a pair of hex digits stands for.
+fn byte(pair: &[u8]) -> Option<u8> {
+    let [high, low] = pair else {
+        return None;
+    };
+    let high = char::from(*high).to_digit(16)?;
+    let low = char::from(*low).to_digit(16)?;
+    Some((high * 16 + low) as u8)
+}
+
+// The bytes that words stand for, `-` for none, into the front of `out`, and how many it took; those that find no room are read and left out.
+pub(crate) fn decode(words: Words, out: &mut [u8]) -> Option<usize> {
+    let mut rest = words;
+    if let (Some(b"-"), None) = (rest.next(), rest.next()) {
+        return Some(0);
     }
-    let mut at = from;
     let mut count: usize = 0;
-    while at < text.len() {
-        if text.len() - at < 2 {
-            return Parsed::Bad;
+    for pair in words.flat_map(|word| word.chunks(2)) {
+        let value = byte(pair)?;
+        if let Some(place) = out.get_mut(count) {
+            *place = value;
+            count += 1;
         }
-        let high = digit(text[at]);
-        let low = digit(text[at + 1]);
-        if 15 < high {
-            return Parsed::Bad;
-        }
-        if 15 < low {
-            return Parsed::Bad;
-        }
-        if count < MOST_BYTES {
-            out[count] = high * 16 + low;
-        }
-        count += 1;
-        at = skip(text, at + 2, true);
     }
-    Parsed::Value(count as u64)
+    Some(count)
 }

@@ -4,7 +4,7 @@
 ghost use Rattle.std.specs.Prelude.{◌≡◌, ◌+◌, ◌≤◌};
 ghost use Rattle.seats.specs.Offers.{free_in, offer_answer};
 
-use config::{Number, Refusal};
+use config::Refusal;
 
 // The longest block, in bytes.
 const MOST_BLOCK: usize = 64;
@@ -13,22 +13,20 @@ const MOST_BLOCK: usize = 64;
 fn sold_in(byte: u8) -> u16
     ensures { (result + free_in byte ≡ 8) × (result ≤ 8) }
 {
-    u8::count_ones(byte) as u16
+    byte.count_ones() as u16
 }
 
 // How many seats of a block are on offer; 14 for a block over 64 bytes.
-pub fn on_offer(block: &[u8]) -> Number
+pub fn on_offer(block: &[u8]) -> Result<u64, Refusal>
     ensures { result ≡ offer_answer block.now }
 {
     if MOST_BLOCK < block.len() {
-        return Number::Refused(Refusal::Long);
+        return Err(Refusal::Long);
     }
     let mut sold: u16 = 0;
-    let mut k: usize = 0;
-    while k < block.len() {
-        sold += sold_in(block[k]);
-        k += 1;
+    for byte in block {
+        sold += sold_in(*byte);
     }
-    let seats = 8 * block.len();
-    Number::Value((seats as u64) - (sold as u64))
+    let seats = 8 * block.len() as u64;
+    Ok(seats - u64::from(sold))
 }

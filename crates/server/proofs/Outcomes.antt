@@ -1,4 +1,5 @@
 -- What serve can come to, as one principle for the fields of a message and one for a message: whoever shows P of each outcome has it of serve.
+use Rattle.std.specs.Prelude.{Ok, Err}
 use Prim.Native.Nat.{ℕ}
 use mathlib.Core.Path.{◌≡◌, refl}
 use mathlib.Core.Bool.{Bool, true, false, cond}
@@ -6,14 +7,13 @@ use mathlib.Core.List.{List}
 use borrow.Author.Tests.{eqb-true}
 use lib.Dec.{eqb}
 use lib.ListN.{length}
-use Rattle.config.specs.Refusals.{by-verdict, refusal}
+use Rattle.config.specs.Refusals.{by-verdict, refusal, granted}
 use Rattle.config.specs.declared.answer.Refusal.{Refusal}
-use Rattle.config.specs.declared.answer.Verdict.{Verdict}
-use Rattle.config.specs.declared.answer.Verdict.TheVariants.{Accepted, Refused}
-use Rattle.config.specs.declared.answer.Number.{Number}
+use Rattle.config.specs.Refusals.{Verdict}
+use Rattle.config.specs.Refusals.{Number}
 use Rattle.message.specs.Answers.{fits as room, place, receive_of}
 use Rattle.message.specs.declared.envelope.Envelope.{Envelope}
-use Rattle.message.specs.declared.answer.Received.{Received}
+use Rattle.message.specs.Answers.{Received}
 use Rattle.replica.specs.declared.replica.Replica.{Replica}
 use Rattle.server.specs.declared.record.Server.{Server}
 use Rattle.server.specs.Servers.{fits, holding}
@@ -30,7 +30,7 @@ reply s e r = reply_message (joined_server s r) e
 
 -- a share that is joined, and a request that is joined and replied to
 abbrev pub shared : Server → Replica → List ℕ → ℕ → Outcome
-shared s r out at = record { answer = Number.Value at; server = joined_server s r; out = out }
+shared s r out at = record { answer = Ok at; server = joined_server s r; out = out }
 
 abbrev pub replied : Server → Envelope → Replica → List ℕ → ℕ → Outcome
 replied s e r out at = record { answer = (place (reply s e r) out at).answer; server = joined_server s r; out = (place (reply s e r) out at).out }
@@ -71,15 +71,15 @@ module _ (P : Outcome → Type 0) (s : Server) (msg out : List ℕ) (at : ℕ) w
   got = receive_of s.config msg
 
   pub serve-cases : ((k : Refusal) → P (refuse k s out))
-      → (fits s ≡ true → got.verdict ≡ Verdict.Accepted → Does P s got.envelope got.replica out at)
+      → (fits s ≡ true → got.verdict ≡ granted → Does P s got.envelope got.replica out at)
       → P (serve_of s msg out at)
   unfolding serve_of
   serve-cases left does = by-fit (fits s) refl
     where
       by-taken : fits s ≡ true → (v : Verdict) → got.verdict ≡ v
           → P (by-verdict v (serve_fields s got.envelope got.replica out at) (λ k. refuse k s out))
-      by-taken f Accepted d = fields-cases P s got.envelope got.replica out at (does f d)
-      by-taken f (Refused k) d = left k
+      by-taken f (Ok _) d = fields-cases P s got.envelope got.replica out at (does f d)
+      by-taken f (Err k) d = left k
 
       by-fit : (b : Bool) → fits s ≡ b
           → P (cond b (by-verdict got.verdict (serve_fields s got.envelope got.replica out at) (λ k. refuse k s out)) (refuse (refusal 1) s out))
@@ -93,7 +93,7 @@ served s r n b = record { answer = n; server = joined_server s r; out = b }
 
 module _ (P : Outcome → Type 0) (s : Server) (msg out : List ℕ) (at : ℕ) where
   pub serve-either : ((k : Refusal) → P (refuse k s out))
-      → ((receive_of s.config msg).verdict ≡ Verdict.Accepted
+      → ((receive_of s.config msg).verdict ≡ granted
       → clashes s (receive_of s.config msg).replica ≡ false
       → (n : Number) (b : List ℕ)
       → P (served s (receive_of s.config msg).replica n b))

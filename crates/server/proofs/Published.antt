@@ -8,8 +8,7 @@ use Rattle.config.proofs.Clusters.{lawful-valid}
 use Rattle.quorums.specs.Published.{WeightedMajority, RpIntegrity, Line12}
 use Rattle.quorums.proofs.Tests.{fails}
 use Rattle.config.specs.Cluster.{total_of}
-use Rattle.config.specs.Refusals.{refusal}
-use Rattle.config.specs.declared.answer.Verdict.{Verdict}
+use Rattle.config.specs.Refusals.{refusal, granted}
 use Rattle.ledger.specs.Ledgers.{count_of, accounts_of}
 use Rattle.ledger.specs.Maps.{named}
 use Rattle.ledger.specs.Weights.{weight_of, quorum_of}
@@ -31,16 +30,16 @@ spares-published s d = gift-line s.config s.replica.ledger s.number d
 -- Algorithm 4, line 12: a lawful transfer of a server whose count is not at its end is accepted exactly when the line lets it through.
 pub transfer-published : (s : Server) (j d : ℕ) → fits s ≡ true → lawful s.config s.number j d ≡ true
     → count_of s.replica.ledger s.number < most_count
-    → ((transfer_of s j d).verdict ≡ Verdict.Accepted)
+    → ((transfer_of s j d).verdict ≡ granted)
     ↔ Line12 s.config.n s.config.f (total_of s.config) (weight_of s.config s.replica.ledger s.number) d
 transfer-published s j d e w h = (
   λ t. (spares-published s d).0 (told t),
   λ p. ap (λ r. r.verdict) (transfer-done s j d e (record { legal = w; counted = h; spared = (spares-published s d).1 p })),
 )
   where
-    told : (transfer_of s j d).verdict ≡ Verdict.Accepted → spares s.config s.replica.ledger s.number d ≡ true
+    told : (transfer_of s j d).verdict ≡ granted → spares s.config s.replica.ledger s.number d ≡ true
     told =
-        transfer-cases (λ r. r.verdict ≡ Verdict.Accepted → spares s.config s.replica.ledger s.number d ≡ true) s j d (λ f g t. g.spared)
+        transfer-cases (λ r. r.verdict ≡ granted → spares s.config s.replica.ledger s.number d ≡ true) s j d (λ f g t. g.spared)
         (λ k t. accepted-not-refused k (sym t))
 
 -- One that the line does not let through is 10, and the record is as it was.

@@ -1,5 +1,6 @@
 -- What the answer of serve tells: whom an accepted message was for, that 13 is the last test, and that the reply which was written reads back to the
 -- request's desk, round and note and the pair after joining.
+use Rattle.std.specs.Prelude.{Ok, Err}
 use Prim.Native.Nat.{ℕ}
 use native.Mathlib.Omega.{arith}
 use mathlib.Core.Path.{◌≡◌, refl, sym, ap, ◌∙◌}
@@ -8,13 +9,11 @@ use mathlib.Core.Bool.{Bool, true, false, cond, not, false≢true}
 use mathlib.Core.List.{List}
 use borrow.Author.Tests.{eqb-true}
 use lib.Dec.{eqb}
-use Rattle.config.specs.Refusals.{refusal}
-use Rattle.config.specs.declared.answer.Verdict.{Verdict}
-use Rattle.config.specs.declared.answer.Number.{Number}
+use Rattle.config.specs.Refusals.{refusal, granted}
 use Rattle.config.proofs.Clusters.{value-not-refused}
 use Rattle.message.specs.Envelopes.{Bytes, trimmed_replica}
 use Rattle.message.specs.declared.envelope.Envelope.{Envelope}
-use Rattle.message.specs.declared.answer.Received.{Received}
+use Rattle.message.specs.Answers.{Received}
 use Rattle.replica.specs.declared.replica.Replica.{Replica}
 use Rattle.message.specs.Answers.{between, receive_of}
 use Rattle.message.proofs.Envelopes.{receive-told}
@@ -40,9 +39,9 @@ addressed-told s e = by_kind (eqb e.kind 3) refl (eqb e.kind 1) refl (eqb e.serv
 
 module _ (s : Server) (e : Envelope) (r : Replica) (out : List ℕ) (at : ℕ) where
   -- An accepted message is a share, or a request for this server.
-  pub serve-addressed : (x : ℕ) → (serve_fields s e r out at).answer ≡ Number.Value x → (e.kind ≡ 3) ⊎ ((e.kind ≡ 1) × (e.server ≡ s.number))
+  pub serve-addressed : (x : ℕ) → (serve_fields s e r out at).answer ≡ Ok x → (e.kind ≡ 3) ⊎ ((e.kind ≡ 1) × (e.server ≡ s.number))
   serve-addressed x =
-      fields-cases (λ o. o.answer ≡ Number.Value x → (e.kind ≡ 3) ⊎ ((e.kind ≡ 1) × (e.server ≡ s.number))) s e r out at
+      fields-cases (λ o. o.answer ≡ Ok x → (e.kind ≡ 3) ⊎ ((e.kind ≡ 1) × (e.server ≡ s.number))) s e r out at
       (record {
         strays = λ t d. absurd (value-not-refused x (refusal 7) (sym d));
         clash = λ t c d. absurd (value-not-refused x (refusal 6) (sym d));
@@ -52,9 +51,9 @@ module _ (s : Server) (e : Envelope) (r : Replica) (out : List ℕ) (at : ℕ) w
       })
 
   -- 13 is told only of what is no stray and joins.
-  pub narrow-last : (serve_fields s e r out at).answer ≡ Number.Refused (refusal 13) → Joins s e r
+  pub narrow-last : (serve_fields s e r out at).answer ≡ Err (refusal 13) → Joins s e r
   narrow-last =
-      fields-cases (λ o. o.answer ≡ Number.Refused (refusal 13) → Joins s e r) s e r out at
+      fields-cases (λ o. o.answer ≡ Err (refusal 13) → Joins s e r) s e r out at
       (record {
         strays = λ t d. let z : ◌≡◌ {A = ℕ} 0 1 = cc in absurd (omega arith);
         clash = λ t c d. let z : ◌≡◌ {A = ℕ} 0 1 = cc in absurd (omega arith);
@@ -72,12 +71,12 @@ module _ (s : Server) (msg out : List ℕ) (at next : ℕ) (b : Bytes msg) (t : 
   abbrev Says : Outcome → Type 0
   Says o =
       receive_of s.config (between o.out at next)
-      ≡ record { verdict = Verdict.Accepted; envelope = reply_envelope s got.envelope; replica = trimmed_replica o.server.replica }
+      ≡ record { verdict = granted; envelope = reply_envelope s got.envelope; replica = trimmed_replica o.server.replica }
 
   -- The bytes that an accepted request left in the buffer, from the place given up to the place handed back, read back to the reply that was meant.
-  pub serve-replies : got.envelope.kind ≡ 1 → (serve_of s msg out at).answer ≡ Number.Value next → Says (serve_of s msg out at)
+  pub serve-replies : got.envelope.kind ≡ 1 → (serve_of s msg out at).answer ≡ Ok next → Says (serve_of s msg out at)
   serve-replies request =
-      serve-cases (λ o. o.answer ≡ Number.Value next → Says o) s msg out at (λ k d. absurd (value-not-refused next k (sym d)))
+      serve-cases (λ o. o.answer ≡ Ok next → Says o) s msg out at (λ k d. absurd (value-not-refused next k (sym d)))
       (λ f a. record {
         strays = λ u d. absurd (value-not-refused next (refusal 7) (sym d));
         clash = λ u c d. absurd (value-not-refused next (refusal 6) (sym d));

@@ -5,8 +5,7 @@ use mathlib.Core.Path.{◌≡◌, refl, sym}
 use mathlib.Core.Bool.{Bool, true, false, cond}
 use Rattle.quorums.proofs.Tests.{both}
 use Rattle.config.specs.Cluster.{House, config_of, house_fault, server_of, lawful_of}
-use Rattle.config.specs.Refusals.{refusal}
-use Rattle.config.specs.declared.answer.Verdict.{Verdict}
+use Rattle.config.specs.Refusals.{refusal, granted}
 use Rattle.config.proofs.Clusters.{lawful-valid, valid-server}
 use Rattle.config.proofs.Houses.{none-typed, given-typed, house-told}
 use Rattle.ledger.proofs.Checks.{accepted-not-refused}
@@ -44,11 +43,11 @@ fits-replica s o = rw o refl
 abbrev opened : House → ℕ → Bool → Bool → ServerAnswer
 opened h i b l = cond b (cond l (accepted (fresh_server (config_of h) i)) (refused (refusal 15) blank_server)) (refused (refusal 1) blank_server)
 
-pub open-fits : (h : House) (i : ℕ) → (open_of h i).verdict ≡ Verdict.Accepted → fits (open_of h i).server ≡ true
+pub open-fits : (h : House) (i : ℕ) → (open_of h i).verdict ≡ granted → fits (open_of h i).server ≡ true
 unfolding open_of
 open-fits h i e = by_tests (server_of (config_of h) i) (lawful_of (config_of h)) refl refl e
   where
-    by_tests : (b l : Bool) → server_of (config_of h) i ≡ b → lawful_of (config_of h) ≡ l → (opened h i b l).verdict ≡ Verdict.Accepted → fits (opened h i b l).server ≡ true
+    by_tests : (b l : Bool) → server_of (config_of h) i ≡ b → lawful_of (config_of h) ≡ l → (opened h i b l).verdict ≡ granted → fits (opened h i b l).server ≡ true
     by_tests true true t v d = told-fits _ (record { server-in = t; replica-fits = fresh-fits (config_of h) v })
     by_tests true false t v d = accepted-not-refused _ (sym d)
     by_tests false l t v d = accepted-not-refused _ (sym d)

@@ -1,6 +1,7 @@
 -- Serve: a server that fits stays one and loses nothing, and a refusal leaves all as it was. A request that passed its checks is answered with a
 -- message that the reader takes: it reads back to the request's desk, round and note and to what the server holds once it has joined what the request
 -- carries.
+use Rattle.std.specs.Prelude.{Ok, Err}
 use Prim.Native.Nat.{ℕ}
 use native.Mathlib.Omega.{arith}
 use mathlib.Core.Path.{◌≡◌, refl, sym, ◌∙◌}
@@ -8,16 +9,14 @@ use mathlib.Core.Bool.{Bool, true, false, cond}
 use mathlib.Core.List.{List}
 use borrow.Author.Tests.{lt-ltb, eq-eqb, ne_eqb}
 use lib.Dec.{eqb}
-use Rattle.config.specs.Refusals.{refusal}
+use Rattle.config.specs.Refusals.{refusal, granted}
 use Rattle.config.specs.declared.answer.Refusal.{Refusal}
-use Rattle.config.specs.declared.answer.Verdict.{Verdict}
-use Rattle.config.specs.declared.answer.Number.{Number}
 use Rattle.config.proofs.Clusters.{server-valid, server-small, value-not-refused}
 use Rattle.message.specs.Envelopes.{Bytes, trimmed_replica, Typed as TypedEnvelope}
 use Rattle.message.specs.Cursors.{within}
 use Rattle.message.specs.Faults.{kind_number_fits, lawful, Passed}
 use Rattle.message.specs.declared.envelope.Envelope.{Envelope}
-use Rattle.message.specs.declared.answer.Received.{Received}
+use Rattle.message.specs.Answers.{Received}
 use Rattle.replica.specs.declared.replica.Replica.{Replica}
 use Rattle.replica.specs.Replicas.{fits as fits_replica, join, Typed as TypedReplica}
 use Rattle.message.specs.Answers.{receive_of}
@@ -90,7 +89,7 @@ module _ (s : Server) (e : Envelope) (r : Replica) (t : Typed s) (f : fits s ≡
   pub reply-back : e.kind ≡ 1
       → clashes s r ≡ false
       → receive_of s.config (reply_message (joined_server s r) e)
-      ≡ record { verdict = Verdict.Accepted; envelope = reply_envelope s e; replica = trimmed_replica (joined_server s r).replica }
+      ≡ record { verdict = granted; envelope = reply_envelope s e; replica = trimmed_replica (joined_server s r).replica }
   reply-back k c =
       received-back s.config (reply_envelope s e) (join s.replica r) (reply-typed s e f p.envelope-typed) held-typed
       (reply-lawful s e f p.envelope-lawful (ne_eqb e.kind 3 (λ d. omega arith)))
@@ -117,10 +116,10 @@ module _ (s : Server) (msg out : List ℕ) (at : ℕ) where
 
   -- A message that is accepted leaves all that the server had and all that the message had.
   pub serve-grows : (x : ℕ)
-      → (serve_of s msg out at).answer ≡ Number.Value x
+      → (serve_of s msg out at).answer ≡ Ok x
       → Grows s.replica (serve_of s msg out at).server.replica × Grows got.replica (serve_of s msg out at).server.replica
   serve-grows x =
-      serve-either (λ o. o.answer ≡ Number.Value x → Grows s.replica o.server.replica × Grows got.replica o.server.replica) s msg out at
+      serve-either (λ o. o.answer ≡ Ok x → Grows s.replica o.server.replica × Grows got.replica o.server.replica) s msg out at
       (λ k d. absurd (value-not-refused x k (sym d)))
       (λ a c n b d.
       let j = clear-joinable s got.replica c in
@@ -128,10 +127,10 @@ module _ (s : Server) (msg out : List ℕ) (at : ℕ) where
 
   -- A refusal leaves the record and the buffer as they were.
   pub serve-refused : (k : Refusal)
-      → (serve_of s msg out at).answer ≡ Number.Refused k
+      → (serve_of s msg out at).answer ≡ Err k
       → ((serve_of s msg out at).server ≡ s) × ((serve_of s msg out at).out ≡ out)
   serve-refused k =
-      serve-cases (λ o. o.answer ≡ Number.Refused k → (o.server ≡ s) × (o.out ≡ out)) s msg out at (λ n d. (refl, refl))
+      serve-cases (λ o. o.answer ≡ Err k → (o.server ≡ s) × (o.out ≡ out)) s msg out at (λ n d. (refl, refl))
       (λ f a. record {
         strays = λ t d. (refl, refl);
         clash = λ t c d. (refl, refl);

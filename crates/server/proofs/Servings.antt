@@ -1,5 +1,7 @@
--- Serve on the parts of a record is serve. What becomes of a message is known before the record is tested, and the record test is made where it is: of
--- what is held where nothing else tests it, and by what is answered where that carries what is held.
+-- Serve is what is done step by step. What becomes of a message is known before the record is tested, and the record test is made where it is: of what is
+-- held where nothing else tests it, and by what is answered where that carries what is held.
+use Rattle.std.specs.Prelude.{Result, Ok, Err}
+use Rattle.std.proofs.Common.{Fits, w8, get_or}
 use Prim.Native.Nat.{ℕ, ◌+◌}
 use mathlib.Core.Path.{◌≡◌, refl, sym, ap, ◌∙◌}
 use mathlib.Core.Bool.{Bool, true, false, cond, false≢true}
@@ -8,39 +10,33 @@ use native.Mathlib.Omega.{arith}
 use lib.Dec.{eqb}
 use lib.ListN.{length, take, drop}
 use Rattle.config.specs.Cluster.{server_of}
-use Rattle.config.specs.Refusals.{by-verdict, refusal}
+use Rattle.config.proofs.Clusters.{server-small}
+use Rattle.config.specs.Refusals.{Verdict, by-verdict, refusal, granted}
 use Rattle.config.specs.declared.cluster.Config.{Config}
 use Rattle.config.specs.declared.answer.Refusal.{Refusal}
-use Rattle.config.specs.declared.answer.Number.{Number}
-use Rattle.config.specs.declared.answer.Verdict.{Verdict}
-use Rattle.config.specs.declared.answer.Verdict.TheVariants.{Accepted, Refused}
-use Rattle.config.specs.declared.answer.Number.TheVariants as N
-use Rattle.ledger.specs.declared.ledger.Ledger.{Ledger}
+use Rattle.ledger.specs.Ledgers.{Shaped}
 use Rattle.ledger.specs.Joins.{joined}
 use Rattle.ledger.specs.declared.join.Compared.{Compared}
 use Rattle.ledger.proofs.Unions.{joined-comm}
-use Rattle.message.specs.Answers.{fits as room, Written, over, place, receive_of, taken_of, taken_ledger}
-use Rattle.message.specs.declared.answer.Received.{Received}
-use Rattle.message.specs.declared.answer.Taken.{Taken}
+use Rattle.message.specs.Answers.{fits as room, Received, Written, over, place, receive_of}
 use Rattle.message.specs.declared.envelope.Envelope.{Envelope}
 use Rattle.message.specs.Envelopes.{message_of}
 use Rattle.message.specs.Faults.{lawful, send_of, Passed}
 use Rattle.message.proofs.Found.{sends-held}
-use Rattle.message.proofs.TakenLemmas.{taken-verdict, taken-envelope, taken-replica}
+use Rattle.message.proofs.Envelopes.{receive-told}
 use Rattle.replica.specs.declared.register.Register.{Register}
 use Rattle.replica.specs.declared.replica.Replica.{Replica}
-use Rattle.replica.specs.Parts.{replica_of}
 use Rattle.replica.specs.Registers.{register_fits, higher}
 use Rattle.replica.specs.Replicas.{fits as fits_replica, joinable, join, compared_of}
 use Rattle.replica.proofs.Replicas.{fits_told as replica-told}
 use Rattle.replica.proofs.Comparisons.{with_higher, compared-apart, compared-joinable, known-join, rows_join, higher-fits}
 use Rattle.server.specs.declared.record.Server.{Server}
 use Rattle.server.specs.declared.serve.Serving.{Serving}
-use Rattle.server.specs.declared.serve.ServedIn.{ServedIn}
+use Rattle.server.specs.declared.serve.Considered.{Considered}
 use Rattle.server.specs.Servers.{fits, holding}
-use Rattle.server.proofs.Outcomes.{serve-kept}
 use Rattle.server.specs.Serves.{Outcome, refuse, stray, knows_more, clashes, reply_by, reply_of, serve_fields, serve_of}
-use Rattle.server.specs.Servings.{serving_of, by_number, answer_in, unwritten, light_of, lightened, settled, known_in, more_in, parts_of}
+use Rattle.server.specs.Servings.{serving_of, considered_of, answer_in, unwritten, light_of, lightened, settled, known_in, more_in}
+use Rattle.server.proofs.Considered.{brings, tested, with-refused, with-told}
 use Rattle.server.proofs.Servers.{fits-replica}
 use Rattle.server.proofs.Serves.{reply-lawful}
 use Rattle.server.proofs.Told.{clash-own, clash-rest, fields-stray, fields-clash, fields_share, fields-reply}
@@ -64,7 +60,7 @@ unfolding settled place reply_of
 placed s p m out at = by-room (room (length out) at (length m))
   where
     w : Bool → Written
-    w b = cond b (record { answer = Number.Value (at + length m); out = take at out ++ over m (drop at out) }) (unwritten (refusal 13) out)
+    w b = cond b (record { answer = Ok (at + length m); out = take at out ++ over m (drop at out) }) (unwritten (refusal 13) out)
 
     by-room : (b : Bool) → settled s p (w b) ≡ cond b (record { answer = (w b).answer; server = holding s p; out = (w b).out }) (refuse (refusal 13) s out)
     by-room true = refl
@@ -75,28 +71,11 @@ unfolding place light_of
 placed-light m out at = by-room (room (length out) at (length m))
   where
     w : Bool → Written
-    w b = cond b (record { answer = Number.Value (at + length m); out = take at out ++ over m (drop at out) }) (unwritten (refusal 13) out)
+    w b = cond b (record { answer = Ok (at + length m); out = take at out ++ over m (drop at out) }) (unwritten (refusal 13) out)
 
     by-room : (b : Bool) → lightened (w b) ≡ w b
     by-room true = refl
     by-room false = refl
-
--- what serve comes to by what is answered
-
-settled-done : (s : Server) (p : Replica) (w : Written) (k : ℕ) → w.answer ≡ Number.Value k
-    → settled s p w ≡ record { answer = Number.Value k; server = holding s p; out = w.out }
-unfolding settled
-settled-done s p w k d = rw d refl
-
-settled-left : (s : Server) (p : Replica) (w : Written) (k : Refusal) → w.answer ≡ Number.Refused k → settled s p w ≡ refuse k s w.out
-unfolding settled
-settled-left s p w k d = rw d refl
-
-light-done : (w : Written) (k : ℕ) → w.answer ≡ Number.Value k → lightened w ≡ w
-light-done w k d = rw d refl
-
-light-refused : (w : Written) (k : Refusal) → w.answer ≡ Number.Refused k → lightened w ≡ unwritten (light_of k) w.out
-light-refused w k d = rw d refl
 
 -- a refusal leaves all as it was, and 1 of both together is 6
 
@@ -110,112 +89,49 @@ light-left s p out = refl
 
 -- a share is taken
 share-taken : (s : Server) (p : Replica) (out : List ℕ) (at : ℕ)
-    → settled s p (record { answer = Number.Value at; out = out }) ≡ record { answer = Number.Value at; server = holding s p; out = out }
+    → settled s p (record { answer = Ok at; out = out }) ≡ record { answer = Ok at; server = holding s p; out = out }
 unfolding settled
 share-taken s p out at = refl
-
--- a message that brings no transfer, where h is held afterwards
-module _ (s : Server) (e : Envelope) (h : Register) (out : List ℕ) (at : ℕ) where
-  abbrev keeps : Replica
-  keeps = record { ledger = s.replica.ledger; register = h }
-
-  pub known-unfit : register_fits s.config s.replica.register ≡ false → known_in s e h out at ≡ refuse (refusal 1) s out
-  unfolding known_in
-  known-unfit f = rw f (refused-left s keeps (refusal 1) out)
-
-  module _ (f : register_fits s.config s.replica.register ≡ true) where
-    pub known-done : (k : ℕ) → (answer_in s.config s.number e keeps out at).answer ≡ Number.Value k
-        → known_in s e h out at ≡ record { answer = Number.Value k; server = holding s keeps; out = (answer_in s.config s.number e keeps out at).out }
-    unfolding known_in
-    known-done k d = rw f (settled-done s keeps _ k d)
-
-    pub known-left : (k : Refusal) → (answer_in s.config s.number e keeps out at).answer ≡ Number.Refused k
-        → known_in s e h out at ≡ refuse k s (answer_in s.config s.number e keeps out at).out
-    unfolding known_in
-    known-left k d = rw f (settled-left s keeps _ k d)
-
-  -- the ledger stays
-  pub known-ledger : (known_in s e h out at).server.replica.ledger ≡ s.replica.ledger
-  unfolding known_in settled
-  known-ledger = by_answer (cond (register_fits s.config s.replica.register) (answer_in s.config s.number e keeps out at) (unwritten (refusal 1) out))
-    where
-      by-number-of : (w : Written) (n : Number)
-          → (by_number n (record { answer = w.answer; server = holding s keeps; out = w.out }) (λ k. refuse k s w.out)).server.replica.ledger ≡ s.replica.ledger
-      by-number-of w (N.Value x) = refl
-      by-number-of w (N.Refused k) = refl
-
-      by_answer : (w : Written)
-          → (by_number w.answer (record { answer = w.answer; server = holding s keeps; out = w.out }) (λ k. refuse k s w.out)).server.replica.ledger
-          ≡ s.replica.ledger
-      by_answer w = by-number-of w w.answer
-
--- a message that brings transfers
-module _ (s : Server) (e : Envelope) (r : Replica) (out : List ℕ) (at : ℕ) where
-  abbrev pub gains : Replica
-  gains = record { ledger = joined r.ledger s.replica.ledger; register = r.register }
-
-  pub more-unfit : fits_replica s.config s.replica ≡ false → more_in s e r out at ≡ refuse (refusal 1) s out
-  unfolding more_in
-  more-unfit f = rw f (refused-left s gains (refusal 1) out)
-
-  module _ (f : fits_replica s.config s.replica ≡ true) where
-    pub more-done : (k : ℕ) → (answer_in s.config s.number e gains out at).answer ≡ Number.Value k
-        → more_in s e r out at ≡ record { answer = Number.Value k; server = holding s gains; out = (answer_in s.config s.number e gains out at).out }
-    unfolding more_in
-    more-done k d = rw f (ap (settled s gains) (light-done _ k d) ∙ settled-done s gains _ k d)
-
-    pub more_left : (k : Refusal) → (answer_in s.config s.number e gains out at).answer ≡ Number.Refused k
-        → more_in s e r out at ≡ refuse (light_of k) s (answer_in s.config s.number e gains out at).out
-    unfolding more_in
-    more_left k d = rw f (ap (settled s gains) (light-refused _ k d) ∙ refused-left s gains (light_of k) _)
 
 -- ---- what becomes of a message
 
 -- what is known of a message that is not refused, and whether it brings a transfer
 pub record Serves (s : Server) (v : Verdict) (e : Envelope) (r : Replica) (more : Bool) : Type 0 where
-  pub taken : v ≡ Verdict.Accepted
+  pub taken : v ≡ granted
   pub addressed : stray s e ≡ false
   pub fewer : knows_more s r ≡ false
-  pub joining : (compared_of s.config.n s.replica r).joins ≡ true
-  pub lacking : (compared_of s.config.n s.replica r).lacks ≡ more
+  pub compared : Compared
+  pub joining : compared_of s.config.n s.replica r ≡ Ok compared
+  pub lacking : compared.lacks ≡ more
 
-abbrev brings : Bool → Serving
-brings more = cond more Serving.More Serving.Known
-
--- what the tests of a message that the reader takes come to
-abbrev tested : Bool → Bool → Compared → Serving
-tested t m x =
-    cond t (Serving.Refused (refusal 7))
-    (cond m (Serving.Refused (refusal 6)) (cond x.joins (cond x.lacks Serving.More Serving.Known) (Serving.Refused (refusal 6))))
-
-not-refused : (more : Bool) (k : Refusal) → Serving.Refused k ≡ brings more → ⊥
-not-refused true k d = let z : ◌≡◌ {A = ℕ} 0 1 = cc in omega arith
-not-refused false k d = let z : ◌≡◌ {A = ℕ} 0 1 = cc in omega arith
+not-refused : (more : Bool) (k : Refusal) → Err k ≡ brings more → ⊥
+not-refused true k d = cc
+not-refused false k d = cc
 
 same_more : (x more : Bool) → brings x ≡ brings more → x ≡ more
 same_more true true d = refl
-same_more true false d = let z : ◌≡◌ {A = ℕ} 0 1 = cc in absurd (omega arith)
-same_more false true d = let z : ◌≡◌ {A = ℕ} 0 1 = cc in absurd (omega arith)
+same_more true false d = cc
+same_more false true d = cc
 same_more false false d = refl
 
-pub serves-told : (s : Server) (v : Verdict) (e : Envelope) (r : Replica) (more : Bool) → serving_of s v e r ≡ brings more → Serves s v e r more
+serves-told : (s : Server) (v : Verdict) (e : Envelope) (r : Replica) (more : Bool) → serving_of s v e r ≡ brings more → Serves s v e r more
 unfolding serving_of
 serves-told s v e r more = by-verdicts v refl
   where
-    x : Compared
+    x : Result Compared Refusal
     x = compared_of s.config.n s.replica r
 
-    by_tests : v ≡ Verdict.Accepted → (t m j : Bool) → stray s e ≡ t → knows_more s r ≡ m → x.joins ≡ j
-        → cond t (Serving.Refused (refusal 7)) (cond m (Serving.Refused (refusal 6)) (cond j (brings x.lacks) (Serving.Refused (refusal 6)))) ≡ brings more
+    by_tests : v ≡ granted → (t m : Bool) (z : Result Compared Refusal) → stray s e ≡ t → knows_more s r ≡ m → x ≡ z
+        → tested t m z ≡ brings more
         → Serves s v e r more
-    by_tests a true m j p q o d = absurd (not-refused more _ d)
-    by_tests a false true j p q o d = absurd (not-refused more _ d)
-    by_tests a false false true p q o d = record { taken = a; addressed = p; fewer = q; joining = o; lacking = same_more x.lacks more d }
-    by_tests a false false false p q o d = absurd (not-refused more _ d)
+    by_tests a true m z p q o d = absurd (not-refused more _ d)
+    by_tests a false true z p q o d = absurd (not-refused more _ d)
+    by_tests a false false (Ok y) p q o d = record { taken = a; addressed = p; fewer = q; compared = y; joining = o; lacking = same_more y.lacks more d }
+    by_tests a false false (Err k) p q o d = absurd (not-refused more k d)
 
-    by-verdicts : (w : Verdict) → v ≡ w → by-verdict w (tested (stray s e) (knows_more s r) x) (λ k. Serving.Refused k) ≡ brings more → Serves s v e r more
-    by-verdicts Accepted a d = by_tests a (stray s e) (knows_more s r) x.joins refl refl refl d
-    by-verdicts (Refused k) a d = absurd (not-refused more k d)
+    by-verdicts : (w : Verdict) → v ≡ w → by-verdict w (tested (stray s e) (knows_more s r) x) Err ≡ brings more → Serves s v e r more
+    by-verdicts (Ok _) a d = by_tests a (stray s e) (knows_more s r) x refl refl refl d
+    by-verdicts (Err k) a d = absurd (not-refused more k d)
 
 -- ---- serve of a message that was read
 
@@ -223,37 +139,38 @@ abbrev pub serve_read : Server → Verdict → Envelope → Replica → List ℕ
 serve_read s v e r out at = cond (fits s) (by-verdict v (serve_fields s e r out at) (λ k. refuse k s out)) (refuse (refusal 1) s out)
 
 module _ (s : Server) (own : server_of s.config s.number ≡ true) (v : Verdict) (e : Envelope) (r : Replica) (out : List ℕ) (at : ℕ)
-    (passed : v ≡ Verdict.Accepted → Passed s.config e r) where
+    (passed : v ≡ granted → Passed s.config e r) where
   -- the record test is that of the replica
   record-test : (b : Bool) → fits_replica s.config s.replica ≡ b → fits s ≡ b
   record-test b f = fits-replica s own ∙ f
 
   -- a refusal, which comes after 1
-  pub serving-refused : (k : Refusal) → serving_of s v e r ≡ Serving.Refused k
+  serving-refused : (k : Refusal) → serving_of s v e r ≡ Err k
       → serve_read s v e r out at ≡ refuse (cond (fits_replica s.config s.replica) k (refusal 1)) s out
   unfolding serving_of
   serving-refused k d = by-fit (fits_replica s.config s.replica) refl
     where
-      x : Compared
+      x : Result Compared Refusal
       x = compared_of s.config.n s.replica r
 
-      same : (i : Refusal) → Serving.Refused i ≡ Serving.Refused k → refuse i s out ≡ refuse k s out
+      same : (i : Refusal) → ◌≡◌ {A = Result Serving Refusal} (Err i) (Err k) → refuse i s out ≡ refuse k s out
       same i g = let n : i ≡ k = cc in ap (λ m. refuse m s out) n
 
-      by_tests : fits_replica s.config s.replica ≡ true → Passed s.config e r → (t m j b : Bool) → stray s e ≡ t → knows_more s r ≡ m → x.joins ≡ j
-          → cond t (Serving.Refused (refusal 7)) (cond m (Serving.Refused (refusal 6)) (cond j (brings b) (Serving.Refused (refusal 6)))) ≡ Serving.Refused k
+      by_tests : fits_replica s.config s.replica ≡ true → Passed s.config e r → (t m : Bool) (z : Result Compared Refusal) → stray s e ≡ t
+          → knows_more s r ≡ m → x ≡ z → tested t m z ≡ Err k
           → serve_fields s e r out at ≡ refuse k s out
-      by_tests f a true m j b p q o g = fields-stray s e r out at p ∙ same _ g
-      by_tests f a false true j b p q o g = fields-clash s e r out at p (clash-own s r q) ∙ same _ g
-      by_tests f a false false true b p q o g = absurd (not-refused b k (sym g))
-      by_tests f a false false false b p q o g =
-          fields-clash s e r out at p (clash-rest s r false q (compared-apart s.config s.replica r f a.replica-fits o)) ∙ same _ g
+      by_tests f a true m z p q o g = fields-stray s e r out at p ∙ same _ g
+      by_tests f a false true z p q o g = fields-clash s e r out at p (clash-own s r q) ∙ same _ g
+      by_tests f a false false (Ok y) p q o g = absurd (not-refused y.lacks k (sym g))
+      by_tests f a false false (Err i) p q o g =
+          let c = compared-apart s.config s.replica r f a.replica-fits i o in
+          fields-clash s e r out at p (clash-rest s r false q c.1) ∙ same _ (ap (λ h. Err h) (sym c.0) ∙ g)
 
       by-verdicts : fits_replica s.config s.replica ≡ true → (w : Verdict) → v ≡ w
-          → by-verdict w (tested (stray s e) (knows_more s r) x) (λ i. Serving.Refused i) ≡ Serving.Refused k
+          → by-verdict w (tested (stray s e) (knows_more s r) x) Err ≡ Err k
           → by-verdict w (serve_fields s e r out at) (λ i. refuse i s out) ≡ refuse k s out
-      by-verdicts f Accepted a g = by_tests f (passed a) (stray s e) (knows_more s r) x.joins x.lacks refl refl refl g
-      by-verdicts f (Refused i) a g = same i g
+      by-verdicts f (Ok _) a g = by_tests f (passed a) (stray s e) (knows_more s r) x refl refl refl g
+      by-verdicts f (Err i) a g = same i g
 
       by-fit : (b : Bool) → fits_replica s.config s.replica ≡ b → serve_read s v e r out at ≡ refuse (cond b k (refusal 1)) s out
       by-fit true f = rw (record-test true f) (by-verdicts f v refl d)
@@ -272,7 +189,7 @@ module _ (s : Server) (own : server_of s.config s.number ≡ true) (v : Verdict)
       where
         joins : joinable s.config s.replica r ≡ true
         joins =
-            compared-joinable s.config s.replica r f (passed z.taken).replica-fits z.joining
+            compared-joinable s.config s.replica r f (passed z.taken).replica-fits z.compared z.joining
             ∙ ap (fits_replica s.config) (sym d) ∙ q
 
         clear : clashes s r ≡ false
@@ -287,12 +204,12 @@ module _ (s : Server) (own : server_of s.config s.number ≡ true) (v : Verdict)
             ∙ rw q refl
 
         w : Bool → Written
-        w k = cond k (record { answer = cond (fits_replica s.config p) (Number.Value at) (Number.Refused (refusal 1)); out = out }) (send_of s.config (reply_by s.number e) p out at)
+        w k = cond k (record { answer = cond (fits_replica s.config p) (Ok at) (Err (refusal 1)); out = out }) (send_of s.config (reply_by s.number e) p out at)
 
         by_kind : (k : Bool) → eqb e.kind 3 ≡ k → (lightened (w k) ≡ w k) × (settled s p (w k) ≡ serve_fields s e r out at)
         by_kind true k = (
           rw q refl,
-          rw q (share-taken s p out at ∙ ap (λ x. record { answer = Number.Value at; server = holding s x; out = out }) d ∙ sym (fields_share s e r out at z.addressed clear k)),
+          rw q (share-taken s p out at ∙ ap (λ x. record { answer = Ok at; server = holding s x; out = out }) d ∙ sym (fields_share s e r out at z.addressed clear k)),
         )
         by_kind false k = (
           rw (sent k) (placed-light (message p) out at),
@@ -303,10 +220,10 @@ module _ (s : Server) (own : server_of s.config s.number ≡ true) (v : Verdict)
         )
 
   -- a message that brings no transfer
-  pub serving-known : length s.replica.ledger.counts ≡ 16 → length s.replica.ledger.cells ≡ 256 → Serves s v e r false
+  serving-known : Shaped s.replica.ledger → Serves s v e r false
       → serve_read s v e r out at ≡ known_in s e (higher s.replica.register r.register) out at
   unfolding known_in
-  serving-known m n z = by-fit (fits_replica s.config s.replica) (register_fits s.config g) refl refl
+  serving-known l z = by-fit (fits_replica s.config s.replica) (register_fits s.config g) refl refl
     where
       g : Register
       g = s.replica.register
@@ -321,13 +238,13 @@ module _ (s : Server) (own : server_of s.config s.number ≡ true) (v : Verdict)
           → serve_read s v e r out at ≡ settled s p (cond h (answer_in s.config s.number e p out at) (unwritten (refusal 1) out))
       by-fit true true f h =
           fields false z f
-          ∙ sym (answers false z f p (sym (known-join s.config s.replica r f (passed z.taken).replica-fits z.joining m n z.lacking)) (fit h ∙ f)).1
+          ∙ sym (answers false z f p (sym (known-join s.config s.replica r f (passed z.taken).replica-fits z.compared z.joining l.sixteen-counts l.all-cells z.lacking)) (fit h ∙ f)).1
       by-fit true false f h = absurd (false≢true (sym h ∙ (replica-told s.config s.replica f).register-fits))
       by-fit false true f h = rw (record-test false f, unfit-answer s.config s.number e p out at (fit h ∙ f)) (sym (refused-left s p (refusal 1) out))
       by-fit false false f h = rw (record-test false f) (sym (refused-left s p (refusal 1) out))
 
   -- a message that brings transfers
-  pub serving-more : Serves s v e r true
+  serving-more : Serves s v e r true
       → serve_read s v e r out at ≡ more_in s e (record { ledger = r.ledger; register = higher s.replica.register r.register }) out at
   unfolding more_in join
   serving-more z = by-fit (fits_replica s.config s.replica) refl
@@ -338,7 +255,7 @@ module _ (s : Server) (own : server_of s.config s.number ≡ true) (v : Verdict)
       together : fits_replica s.config s.replica ≡ true → p ≡ join s.replica r
       together f =
           ap (λ l. with_higher l s.replica.register r.register)
-          (sym (joined-comm s.replica.ledger r.ledger (rows_join s.config s.replica r f (passed z.taken).replica-fits z.joining)))
+          (sym (joined-comm s.replica.ledger r.ledger (rows_join s.config s.replica r f (passed z.taken).replica-fits z.compared z.joining)))
 
       by-light : fits_replica s.config s.replica ≡ true → (b : Bool) → fits_replica s.config p ≡ b
           → serve_read s v e r out at ≡ settled s p (lightened (answer_in s.config s.number e p out at))
@@ -349,7 +266,7 @@ module _ (s : Server) (own : server_of s.config s.number ≡ true) (v : Verdict)
           fields true z f
           ∙ fields-clash s e r out at z.addressed
           (clash-rest s r false z.fewer
-          (compared-joinable s.config s.replica r f (passed z.taken).replica-fits z.joining ∙ ap (fits_replica s.config) (sym (together f)) ∙ q))
+          (compared-joinable s.config s.replica r f (passed z.taken).replica-fits z.compared z.joining ∙ ap (fits_replica s.config) (sym (together f)) ∙ q))
           ∙ sym (ap (λ w. settled s p (lightened w)) (unfit-answer s.config s.number e p out at q) ∙ light-left s p out)
 
       by-fit : (b : Bool) → fits_replica s.config s.replica ≡ b
@@ -357,33 +274,59 @@ module _ (s : Server) (own : server_of s.config s.number ≡ true) (v : Verdict)
       by-fit true f = by-light f (fits_replica s.config p) refl
       by-fit false f = rw (record-test false f) (sym (refused-left s p (refusal 1) out))
 
--- serve of a message is that of what was taken of it
-pub serve-read : (s : Server) (msg : List ℕ) (t : Taken) (l : Ledger) (out : List ℕ) (at : ℕ) → t ≡ taken_of s.config msg → l ≡ taken_ledger s.config msg
-    → serve_of s msg out at ≡ serve_read s t.verdict t.envelope (replica_of l.counts l.cells t.register) out at
-unfolding serve_of
-serve-read s msg t l out at d g =
-    ap (λ o. cond (fits s) o (refuse (refusal 1) s out)) (by-verdicts t.verdict refl)
-  where
-    x : Received
-    x = receive_of s.config msg
-
-    by-verdicts : (w : Verdict) → t.verdict ≡ w
-        → by-verdict x.verdict (serve_fields s x.envelope x.replica out at) (λ k. refuse k s out)
-        ≡ by-verdict w (serve_fields s t.envelope (replica_of l.counts l.cells t.register) out at) (λ k. refuse k s out)
-    by-verdicts Accepted a =
-        rw (sym (taken-verdict s.config msg t l d g) ∙ a, taken-envelope s.config msg t l d g, taken-replica s.config msg t l d g a) refl
-    by-verdicts (Refused k) a = rw (sym (taken-verdict s.config msg t l d g) ∙ a) refl
-
--- and of a server whose number is none, 1
+-- of a server whose number is none, 1
 pub serve-none : (s : Server) (msg out : List ℕ) (at : ℕ) → server_of s.config s.number ≡ false → serve_of s msg out at ≡ refuse (refusal 1) s out
 unfolding serve_of fits
 serve-none s msg out at o = rw o refl
 
--- ---- the whole record
+-- ---- serve of a message, by what becomes of it
 
--- the counts, cells and register that serve leaves, with the rest of the record
-pub served-whole : (s : Server) (msg out : List ℕ) (at : ℕ) (r : ServedIn) (counts cells : List ℕ) →
-    let o = serve_of s msg out at in
-    r ≡ parts_of o → counts ≡ o.server.replica.ledger.counts → cells ≡ o.server.replica.ledger.cells
-    → holding s (replica_of counts cells r.register) ≡ o.server
-served-whole s msg out at r counts cells d p q = rw (d, p, q) (sym (serve-kept s msg out at))
+module _ (s : Server) (own : server_of s.config s.number ≡ true) (msg out : List ℕ) (at : ℕ)
+    (b : (k : ℕ) → Fits w8 (get_or msg k 0)) where
+  -- what the message says
+  abbrev x : Received
+  x = receive_of s.config msg
+
+  read : serve_of s msg out at ≡ serve_read s x.verdict x.envelope x.replica out at
+  unfolding serve_of
+  read = refl
+
+  passed : x.verdict ≡ granted → Passed s.config x.envelope x.replica
+  passed = receive-told s.config msg (record { byte = λ k. omega (arith, b k) })
+
+  -- a refusal, which comes after 1
+  module _ (k : Refusal) (d : considered_of s msg ≡ Err k) where
+    refused : serve_of s msg out at ≡ refuse (cond (fits_replica s.config s.replica) k (refusal 1)) s out
+    unfolding considered_of
+    refused = read ∙ serving-refused s own x.verdict x.envelope x.replica out at passed k (with-refused x.envelope _ k d)
+
+    pub refuses : fits_replica s.config s.replica ≡ true → serve_of s msg out at ≡ refuse k s out
+    refuses f = refused ∙ rw f refl
+
+    pub refuses-unfit : fits_replica s.config s.replica ≡ false → serve_of s msg out at ≡ refuse (refusal 1) s out
+    refuses-unfit f = refused ∙ rw f refl
+
+  -- a message that is taken, of which d is known and whose replica is r
+  module _ (d : Considered) (r : Replica) (e : considered_of s msg ≡ Ok d) (g : r ≡ x.replica) where
+    told : (more : Bool) → Ok d.serving ≡ brings more → (d.envelope ≡ x.envelope) × Serves s x.verdict x.envelope x.replica more
+    unfolding considered_of
+    told more h =
+        let t = with-told x.envelope _ d e in
+        (t.0, serves-told s x.verdict x.envelope x.replica more (t.1 ∙ h))
+
+    -- one that brings no transfer
+    pub knows : Shaped s.replica.ledger → d.serving ≡ Serving.Known
+        → serve_of s msg out at ≡ known_in s d.envelope (higher s.replica.register r.register) out at
+    knows l h =
+        let t = told false (ap Ok h) in
+        rw (t.0, g) (read ∙ serving-known s own x.verdict x.envelope x.replica out at passed l t.1)
+
+    -- one that brings transfers
+    pub gains : d.serving ≡ Serving.More
+        → serve_of s msg out at ≡ more_in s d.envelope (record { ledger = r.ledger; register = higher s.replica.register r.register }) out at
+    gains h =
+        let t = told true (ap Ok h) in
+        rw (t.0, g) (read ∙ serving-more s own x.verdict x.envelope x.replica out at passed t.1)
+
+-- by which the check proves `serve_lent`
+pub ruleset serving = (server-small, serve-none, refuses, refuses-unfit, knows, gains)

@@ -1,4 +1,5 @@
 -- What serve comes to at each of its tests.
+use Rattle.std.specs.Prelude.{Ok}
 use Prim.Native.Nat.{ℕ}
 use mathlib.Core.Path.{◌≡◌, refl, sym}
 use mathlib.Core.Bool.{Bool, true, false, cond, not, false≢true}
@@ -6,7 +7,6 @@ use mathlib.Core.List.{List}
 use lib.Dec.{eqb, ltb}
 use lib.ListN.{length}
 use Rattle.config.specs.Refusals.{refusal}
-use Rattle.config.specs.declared.answer.Number.{Number}
 use Rattle.ledger.specs.Ledgers.{count_of}
 use Rattle.message.specs.Answers.{fits as room, place}
 use Rattle.message.specs.declared.envelope.Envelope.{Envelope}
@@ -59,7 +59,7 @@ pub fields_share : (s : Server) (e : Envelope) (r : Replica) (out : List ℕ) (a
     → stray s e ≡ false
     → clashes s r ≡ false
     → eqb e.kind 3 ≡ true
-    → serve_fields s e r out at ≡ record { answer = Number.Value at; server = joined_server s r; out = out }
+    → serve_fields s e r out at ≡ record { answer = Ok at; server = joined_server s r; out = out }
 unfolding serve_fields
 fields_share s e r out at t c k = rw (t, c, k) refl
 

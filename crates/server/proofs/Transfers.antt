@@ -1,14 +1,13 @@
 -- Transfers: their tests are those of `add` on the server's ledger, and a transfer keeps the record one that a party may hold.
+use Rattle.std.specs.Prelude.{Err}
 use Prim.Native.Nat.{ℕ, ◌≤◌, ◌<◌}
 use mathlib.Core.Path.{◌≡◌, refl}
 use mathlib.Core.Bool.{Bool, true, false, cond}
-use mathlib.Core.List.{List}
 use borrow.Author.Tests.{lt-ltb, le-ltb, ltb-true}
 use lib.Dec.{ltb}
 use Rattle.config.specs.Cluster.{lawful_of, server_of}
 use Rattle.config.specs.Refusals.{refusal}
 use Rattle.config.specs.declared.answer.Refusal.{Refusal}
-use Rattle.config.specs.declared.answer.Verdict.{Verdict}
 use Rattle.config.proofs.Clusters.{server-valid}
 use Rattle.ledger.specs.declared.ledger.Changed.{Changed}
 use Rattle.ledger.specs.Ledgers.{count_of, accepted as added-ledger, refused as same-ledger}
@@ -22,7 +21,6 @@ use Rattle.replica.proofs.Replicas.{Fits as Holds, fits_told as holds-told, told
 use Rattle.server.specs.declared.record.Server.{Server}
 use Rattle.server.specs.declared.record.ServerAnswer.{ServerAnswer}
 use Rattle.server.specs.Servers.{fits, holding, accepted, refused, Typed}
-use Rattle.server.specs.Parts.{server_of as server_in}
 use Rattle.server.specs.Transfers.{gave, give_of, transfer_of}
 use Rattle.server.proofs.Servers.{fits_told, told-fits}
 
@@ -101,21 +99,16 @@ transfer-cases P s j d done left =
     by_tests false w t p e a b c = left (refusal 1)
 
 -- a refusal leaves the record as it was
-pub transfer-refused : (s : Server) (j d : ℕ) (k : Refusal) → (transfer_of s j d).verdict ≡ Verdict.Refused k → (transfer_of s j d).server ≡ s
+pub transfer-refused : (s : Server) (j d : ℕ) (k : Refusal) → (transfer_of s j d).verdict ≡ Err k → (transfer_of s j d).server ≡ s
 transfer-refused s j d k =
-    transfer-cases (λ r. r.verdict ≡ Verdict.Refused k → r.server ≡ s) s j d (λ e g t. accepted-not-refused k t) (λ r t. refl)
+    transfer-cases (λ r. r.verdict ≡ Err k → r.server ≡ s) s j d (λ e g t. accepted-not-refused k t) (λ r t. refl)
 
 -- a transfer changes nothing but the ledger
-pub transfer-ledger : (s : Server) (j d : ℕ) (v : Verdict) (counts cells : List ℕ) → v ≡ (transfer_of s j d).verdict
-    → counts ≡ (transfer_of s j d).server.replica.ledger.counts
-    → cells ≡ (transfer_of s j d).server.replica.ledger.cells
-    → record { verdict = v; server = server_in s.config s.number counts cells s.replica.register } ≡ transfer_of s j d
-transfer-ledger s j d v counts cells p q r =
-    transfer-cases
-    (λ x.
-    v ≡ x.verdict → counts ≡ x.server.replica.ledger.counts → cells ≡ x.server.replica.ledger.cells
-    → record { verdict = v; server = server_in s.config s.number counts cells s.replica.register } ≡ x)
-    s j d (λ e g a b c. rw (a, b, c) refl) (λ k a b c. rw (a, b, c) refl) p q r
+pub transfer-ledger : (s : Server) (j d : ℕ)
+    → (transfer_of s j d).server ≡ holding s (record { ledger = (transfer_of s j d).server.replica.ledger; register = s.replica.register })
+transfer-ledger s j d =
+    transfer-cases (λ x. x.server ≡ holding s (record { ledger = x.server.replica.ledger; register = s.replica.register })) s j d
+    (λ e g. refl) (λ k. refl)
 
 -- ---- a transfer is `add` on the server's ledger
 
@@ -160,6 +153,9 @@ transfer-adds s j d =
     by_tests true false b a false x = refl
     by_tests false v b a true x = refl
     by_tests false v b a false x = refl
+
+-- by which the check proves `give`
+pub ruleset giving = (transfer-adds)
 
 -- ---- what a transfer keeps, as `add` does
 

@@ -3,5 +3,4 @@ pub mod Servers
 pub mod Transfers
 pub mod Shares
 pub mod Serves
-pub mod Parts
 pub mod Servings

@@ -1,10 +1,10 @@
 -- The record of a server, the record test, and how one is opened.
-use Rattle.std.specs.Prelude.{ℕ, ◌<◌, ◌^◌, Bool, false, cond}
+use Rattle.std.specs.Prelude.{ℕ, ◌<◌, ◌^◌, Bool, false, cond, Err}
 use Rattle.config.specs.Cluster.{House, config_of, no_config, server_of, Typed as TypedConfig}
 use Rattle.config.specs.Answers.{judged}
 use Rattle.config.specs.declared.cluster.Config.{Config}
 use Rattle.config.specs.declared.answer.Refusal.{Refusal}
-use Rattle.config.specs.declared.answer.Verdict.{Verdict}
+use Rattle.config.specs.Refusals.{granted}
 use Rattle.replica.specs.declared.replica.Replica.{Replica}
 use Rattle.replica.specs.Replicas.{fresh_replica, fits as fits_replica, Typed as TypedReplica}
 use Rattle.server.specs.declared.record.Server.{Server}
@@ -21,10 +21,10 @@ holding s r = record { config = s.config; number = s.number; replica = r }
 -- What a call hands back: a refusal leaves the record as it was.
 
 abbrev pub accepted : Server → ServerAnswer
-accepted s = record { verdict = Verdict.Accepted; server = s }
+accepted s = record { verdict = granted; server = s }
 
 abbrev pub refused : Refusal → Server → ServerAnswer
-refused k s = record { verdict = Verdict.Refused k; server = s }
+refused k s = record { verdict = Err k; server = s }
 
 -- a fresh record, and the record with every field 0
 abbrev pub fresh_server : Config → ℕ → Server

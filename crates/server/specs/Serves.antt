@@ -1,9 +1,9 @@
 -- Serve (paper 01, "Server"): message checks, 7, 6, 13 (requests only). A share is joined and nothing is written; a request is joined, and the reply
 -- carries the pair after that.
-use Rattle.std.specs.Prelude.{ℕ, Bool, true, false, cond, not, List, eqb, ltb, length}
+use Rattle.std.specs.Prelude.{ℕ, Bool, true, false, cond, not, List, eqb, ltb, length, Ok, Err}
 use Rattle.config.specs.Refusals.{by-verdict, refusal}
 use Rattle.config.specs.declared.answer.Refusal.{Refusal}
-use Rattle.config.specs.declared.answer.Number.{Number}
+use Rattle.config.specs.Refusals.{Number}
 use Rattle.ledger.specs.Ledgers.{count_of}
 use Rattle.message.specs.Answers.{fits as room, place, receive_of}
 use Rattle.message.specs.declared.envelope.Envelope.{Envelope}
@@ -21,7 +21,7 @@ pub record Outcome : Type 0 where
 
 -- a refusal leaves the record and the buffer as they were
 abbrev pub refuse : Refusal → Server → List ℕ → Outcome
-refuse k s out = record { answer = Number.Refused k; server = s; out = out }
+refuse k s out = record { answer = Err k; server = s; out = out }
 
 -- 7: a reply, or a request for another server than i
 abbrev pub stray_from : ℕ → Envelope → Bool
@@ -63,7 +63,7 @@ unfoldable pub serve_fields : Server → Envelope → Replica → List ℕ → �
 serve_fields s e r out at =
     cond (stray s e) (refuse (refusal 7) s out)
     (cond (clashes s r) (refuse (refusal 6) s out)
-    (cond (eqb e.kind share) (record { answer = Number.Value at; server = joined_server s r; out = out })
+    (cond (eqb e.kind share) (record { answer = Ok at; server = joined_server s r; out = out })
     (reply_of s (joined_server s r) (reply_message (joined_server s r) e) out at)))
 
 unfoldable pub serve_of : Server → List ℕ → List ℕ → ℕ → Outcome

@@ -1,7 +1,6 @@
 -- Share (paper 01, "Server"): it writes kind 3 with the pair (13).
-use Rattle.std.specs.Prelude.{ℕ, cond, List}
+use Rattle.std.specs.Prelude.{ℕ, cond, List, Err}
 use Rattle.config.specs.Refusals.{refusal}
-use Rattle.config.specs.declared.answer.Number.{Number}
 use Rattle.message.specs.declared.envelope.Envelope.{Envelope}
 use Rattle.message.specs.Envelopes.{share, message_of}
 use Rattle.message.specs.Answers.{Written, place}
@@ -17,4 +16,4 @@ abbrev pub share_message : Server → List ℕ
 share_message s = message_of s.config (share_envelope s) s.replica
 
 unfoldable pub share_of : Server → List ℕ → ℕ → Written
-share_of s out at = cond (fits s) (place (share_message s) out at) (record { answer = Number.Refused (refusal 1); out = out })
+share_of s out at = cond (fits s) (place (share_message s) out at) (record { answer = Err (refusal 1); out = out })

@@ -1,4 +1,4 @@
-// A server of the store (paper 01, "Server"). Its record goes in by value and comes back by value; every call tests it first.
+// A server of the store (paper 01, "Server"). Its record is lent, or goes in by value and comes back by value; every call tests it first.
 #![tactic(auto)]
 
 mod record;
@@ -7,6 +7,4 @@ mod share;
 mod transfer;
 
 pub use record::{Server, ServerAnswer};
-pub use serve::{Served, ServedIn, serve_in};
-pub use share::share_in;
-pub use transfer::transfer_in;
+pub use serve::Served;

@@ -1,5 +1,6 @@
 -- Bad inputs of a server's calls, each with its number (paper 01, "Server" and "Numbers handed out"), the record and the buffer as they were, by
 -- computation; and beside those at a limit the last that is taken.
+use Rattle.std.specs.Prelude.{Ok, Err}
 use Prim.Native.Nat.{ℕ}
 use mathlib.Core.Path.{◌≡◌, refl}
 use mathlib.Core.List.{List, [], ◌∷◌, ◌++◌}
@@ -10,7 +11,6 @@ use Rattle.quorums.specs.Accounts.{weight, above}
 use Rattle.config.specs.Cluster.{level, valid_of, server_of, start_of, total_of, above_of, config_of, lawful_of, ends_of, starts_above, kept_of, keeps}
 use Rattle.config.specs.Refusals.{refusal}
 use Rattle.config.specs.declared.answer.Refusal.{Refusal}
-use Rattle.config.specs.declared.answer.Number.{Number}
 use Rattle.ledger.specs.Ledgers.{fresh_ledger, given_of, received_of}
 use Rattle.ledger.specs.Weights.{weight_of}
 use Rattle.ledger.specs.Checks.{may_hold, total_fits, bounded, above_floor}
@@ -51,7 +51,7 @@ stampless =
 
 -- nothing is written
 abbrev unwritten : Refusal → List ℕ → Written
-unwritten k out = record { answer = Number.Refused k; out = out }
+unwritten k out = record { answer = Err k; out = out }
 
 pub record BadCalls : Type 0 where
   -- open, 1: n = 0, n = 17, 2f = n, number = n, and numbers at their ends
@@ -84,7 +84,7 @@ pub record BadCalls : Type 0 where
   -- share, 13: a byte too short, and a place past the end
   pub too_short : share_of fresh (replicate 6 0xAA) 3 ≡ unwritten (refusal 13) (replicate 6 0xAA)
   pub long-enough : share_of fresh (replicate 7 0xAA) 3
-      ≡ record { answer = Number.Value 7; out = replicate 3 0xAA ++ (0x00 ∷ 0x03 ∷ 0x03 ∷ 0x00 ∷ []) }
+      ≡ record { answer = Ok 7; out = replicate 3 0xAA ++ (0x00 ∷ 0x03 ∷ 0x03 ∷ 0x00 ∷ []) }
   pub past_end : share_of fresh (replicate 6 0xAA) 7 ≡ unwritten (refusal 13) (replicate 6 0xAA)
   pub most-place : share_of fresh (replicate 6 0xAA) most ≡ unwritten (refusal 13) (replicate 6 0xAA)
   -- 1 before it

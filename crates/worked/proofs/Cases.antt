@@ -1,5 +1,6 @@
 -- Cases 1 to 11 of paper 01 ("Checked by the prover, as one group") as one theorem over the definitions of the calls, and its share in hex. Where a case
 -- asks for a quorum, the answer is paper 02's number (N1).
+use Rattle.std.specs.Prelude.{Ok, Err}
 use Prim.Native.Nat.{ℕ, zero, suc, ◌+◌, ◌^◌, ◌<◌}
 use native.Mathlib.Omega.{arith}
 use mathlib.Core.Path.{◌≡◌, refl, ◌∙◌, subst}
@@ -11,10 +12,9 @@ use Rattle.quorums.specs.Sum.{size, sum, sum_ℤ, all}
 use Rattle.quorums.specs.Difference.{difference}
 use Rattle.quorums.specs.Accounts.{weight, total, weight_in, margin, above}
 use Rattle.config.specs.Cluster.{level, valid_of, server_of, start_of, total_of, above_of, stamp_bytes, config_of, lawful_of, ends_of, starts_above, kept_of, keeps, in_bounds}
-use Rattle.config.specs.Refusals.{refusal}
-use Rattle.config.specs.declared.answer.Number.{Number}
-use Rattle.config.specs.declared.answer.Signed.{Signed}
-use Rattle.config.specs.declared.answer.Verdict.{Verdict}
+use Rattle.config.specs.Refusals.{refusal, granted}
+use Rattle.config.specs.Refusals.{Signed}
+use Rattle.config.specs.Refusals.{Verdict}
 use Rattle.ledger.specs.declared.ledger.Ledger.{Ledger}
 use Rattle.ledger.specs.declared.ledger.Changed.{Changed}
 use Rattle.ledger.specs.Ledgers.{fresh_ledger, count_of, cell_of, given_of, received_of, Typed as TypedLedger}
@@ -61,9 +61,9 @@ union = join_answer (gave 0).server.replica.ledger (gave 1).server.replica.ledge
 
 -- both gave, their ledgers join, and on the union a map gets its answer
 pub record AfterBoth (map : ℕ) (answer : Signed) : Type 0 where
-  pub first-accepted : (gave 0).verdict ≡ Verdict.Accepted
-  pub second-accepted : (gave 1).verdict ≡ Verdict.Accepted
-  pub join-accepted : union.verdict ≡ Verdict.Accepted
+  pub first-accepted : (gave 0).verdict ≡ granted
+  pub second-accepted : (gave 1).verdict ≡ granted
+  pub join-accepted : union.verdict ≡ granted
   pub quorum-is : quorum_answer five union.ledger map ≡ answer
 
 -- a share from 1, in which 1 gave 748 to j and nobody gave anything else: the map, kind, server and row map, then the row of 1
@@ -94,31 +94,31 @@ two_sold = 0xA0 ∷ []
 
 pub record Cases : Type 0 where
   -- "1: n=5 f=1, giving 374 of 1,000 passes"
-  pub case-1 : Gives 5 1 374 Verdict.Accepted
+  pub case-1 : Gives 5 1 374 granted
   -- "2: 375 is 10"
-  pub case-2 : Gives 5 1 375 (Verdict.Refused (refusal 10))
+  pub case-2 : Gives 5 1 375 (Err (refusal 10))
   -- "3: n=4 f=1, 333 passes"
-  pub case-3 : Gives 4 1 333 Verdict.Accepted
+  pub case-3 : Gives 4 1 333 granted
   -- "4: 334 is 10"
-  pub case-4 : Gives 4 1 334 (Verdict.Refused (refusal 10))
+  pub case-4 : Gives 4 1 334 (Err (refusal 10))
   -- "5: n=16 f=7, 111 passes"
-  pub case-5 : Gives 16 7 111 Verdict.Accepted
+  pub case-5 : Gives 16 7 111 granted
   -- "6: 112 is 10"
-  pub case-6 : Gives 16 7 112 (Verdict.Refused (refusal 10))
+  pub case-6 : Gives 16 7 112 (Err (refusal 10))
   -- "7: n=4, two fresh servers aren't a quorum": any two, and any lawful f, give 0
-  pub case-7 : (f m : ℕ) → in_bounds 4 f ≡ true → m < 2 ^ 4 → size 4 (named m) ≡ 2 → quorum_answer (config_of (level 4 f)) fresh_ledger m ≡ Signed.Value (pos 0)
+  pub case-7 : (f m : ℕ) → in_bounds 4 f ≡ true → m < 2 ^ 4 → size 4 (named m) ≡ 2 → quorum_answer (config_of (level 4 f)) fresh_ledger m ≡ Ok (pos 0)
   -- "8: n=5 f=1, after 0 and 1 each give 374 to 2, servers 2 and 4 are": 2 × 2,748 − 5,000
-  pub case-8 : AfterBoth (2 ^ 2 + 2 ^ 4) (Signed.Value (pos 496))
+  pub case-8 : AfterBoth (2 ^ 2 + 2 ^ 4) (Ok (pos 496))
   -- "9: 2 and 0 aren't": 2 × 2,374 − 5,000
-  pub case-9 : AfterBoth (2 ^ 2 + 2 ^ 0) (Signed.Value (negsuc 251))
+  pub case-9 : AfterBoth (2 ^ 2 + 2 ^ 0) (Ok (negsuc 251))
   -- "10: n=5 f=1, a message where 1 gave 748, without 0's 374 to 1, reads 5": to any other server
   pub case-10 : (j : ℕ) → j < 5 → (j ≡ 1 → ⊥) → Reads j
   -- "11: value A0 (hex) has 6 on offer, the empty one 0"
-  pub case-11 : (offer_answer two_sold ≡ Number.Value 6) × (offer_answer [] ≡ Number.Value 0)
+  pub case-11 : (offer_answer two_sold ≡ Ok 6) × (offer_answer [] ≡ Ok 0)
 
 -- ---- cases 8 and 9, by computation
 
-after_both : AfterBoth (2 ^ 2 + 2 ^ 4) (Signed.Value (pos 496)) × AfterBoth (2 ^ 2 + 2 ^ 0) (Signed.Value (negsuc 251))
+after_both : AfterBoth (2 ^ 2 + 2 ^ 4) (Ok (pos 496)) × AfterBoth (2 ^ 2 + 2 ^ 0) (Ok (negsuc 251))
 unfolding open_of server_of valid_of lawful_of ends_of starts_above kept_of keeps transfer_of give_of spares lawful added fits fits_replica register_fits is_start register_mark bounded may_hold total_fits
     above_floor above_of above total_of start_of weight_of weight difference given_of received_of join_answer joins joined agree later all table run sum sum_ℤ
     named map_of quorum_answer margin_of margin weight_in total
@@ -202,8 +202,8 @@ giver = transfer_of (open_of (level 5 1) 0).server 2 200
 
 -- "Share from 0 (n=5 f=1) after giving 200 to 2, in hex: 00 23 03 00 00 01 00 01 00 04 00 00 00 C8", written into 20 bytes from place 3
 pub record ShareInHex : Type 0 where
-  pub given : giver.verdict ≡ Verdict.Accepted
-  pub answer : (share_of giver.server (replicate 20 0xAA) 3).answer ≡ Number.Value 17
+  pub given : giver.verdict ≡ granted
+  pub answer : (share_of giver.server (replicate 20 0xAA) 3).answer ≡ Ok 17
   pub buffer : (share_of giver.server (replicate 20 0xAA) 3).out
       ≡ replicate 3 0xAA ++ (0x00 ∷ 0x23 ∷ 0x03 ∷ 0x00 ∷ 0x00 ∷ 0x01 ∷ 0x00 ∷ 0x01 ∷ 0x00 ∷ 0x04 ∷ 0x00 ∷ 0x00 ∷ 0x00 ∷ 0xC8 ∷ []) ++ replicate 3 0xAA
 

@@ -1,4 +1,5 @@
 -- What a fresh server is told when it gives, whoever it is and whoever takes: the floor alone decides.
+use Rattle.std.specs.Prelude.{Err}
 use Prim.Native.Nat.{ℕ, ◌≤◌, ◌<◌}
 use mathlib.Core.Path.{◌≡◌, refl, ◌∙◌, ap}
 use mathlib.Core.Bool.{Bool, true, false, cond}
@@ -8,8 +9,8 @@ use lib.IntN.{pos, ◌-ℤ◌}
 use Rattle.quorums.specs.Difference.{difference}
 use Rattle.config.specs.Cluster.{level, config_of, in_bounds, lawful_of, start_of, above_of}
 use Rattle.config.specs.declared.cluster.Config.{Config}
-use Rattle.config.specs.Refusals.{refusal}
-use Rattle.config.specs.declared.answer.Verdict.{Verdict}
+use Rattle.config.specs.Refusals.{refusal, granted}
+use Rattle.config.specs.Refusals.{Verdict}
 use Rattle.config.proofs.Clusters.{valid-server, lawful-valid}
 use Rattle.config.proofs.Houses.{level-fault, level-lawful, level-start}
 use Rattle.ledger.specs.Ledgers.{fresh_ledger, count_of}
@@ -45,7 +46,7 @@ spared c i d = ap (λ w. above_of c (w -ℤ pos d)) (fresh-weight c i)
 
 -- what the floor says of a gift of d by a server that starts with w
 unfoldable pub by_floor : Config → ℕ → ℕ → Verdict
-by_floor c w d = cond (above_of c (difference w 0 -ℤ pos d)) Verdict.Accepted (Verdict.Refused (refusal 10))
+by_floor c w d = cond (above_of c (difference w 0 -ℤ pos d)) granted (Err (refusal 10))
 
 pub fresh_gives : (c : Config) (i j d : ℕ) → lawful_of c ≡ true → i < c.n → j < c.n → (i ≡ j → ⊥) → 1 ≤ d
     → (transfer_of (fresh_server c i) j d).verdict ≡ by_floor c (start_of c i) d
@@ -55,7 +56,7 @@ fresh_gives c i j d v hi hj ne p =
   where
     chosen : (b : Bool)
         → (cond b (accepted (gave (fresh_server c i) j d)) (refused (refusal 10) (fresh_server c i))).verdict
-        ≡ cond b Verdict.Accepted (Verdict.Refused (refusal 10))
+        ≡ cond b granted (Err (refusal 10))
     chosen true = refl
     chosen false = refl
 

@@ -1,5 +1,6 @@
 -- Servers of a house that starts level, before any transfer: whichever k of n they are, and whatever f, their margin is 2 × 1,000 × k − 1,000 × n
 -- (paper 02, N1).
+use Rattle.std.specs.Prelude.{Ok}
 use Prim.Native.Nat.{ℕ, ◌+◌, ◌*◌, ◌^◌, ◌<◌}
 use native.Mathlib.Omega.{arith}
 use mathlib.Core.Path.{◌≡◌, ap, ap₂, ◌∙◌}
@@ -13,7 +14,6 @@ use Rattle.quorums.proofs.Sums.{sum_in-same, sum_in-const}
 use Rattle.quorums.proofs.Weights.{margin-is}
 use Rattle.config.specs.Cluster.{level, config_of, in_bounds}
 use Rattle.config.specs.declared.cluster.Config.{Config}
-use Rattle.config.specs.declared.answer.Signed.{Signed}
 use Rattle.config.proofs.Clusters.{lawful-valid}
 use Rattle.config.proofs.Houses.{level-lawful, level-start, level-total}
 use Rattle.ledger.specs.Ledgers.{fresh_ledger, given_of, accounts_of}
@@ -42,18 +42,18 @@ module _ (n f m : ℕ) (v : in_bounds n f ≡ true) where
       ∙ ap₂ difference (ap (λ x. 2 * x) fresh-held) (ap₂ (λ x y. 2 * x + y) nothing-given W ∙ less)
 
   pub fresh-quorum : (k : ℕ) → m < 2 ^ n → size n (named m) ≡ k
-      → quorum_answer c fresh_ledger m ≡ Signed.Value (difference (2 * (k * 1000)) (n * 1000))
+      → quorum_answer c fresh_ledger m ≡ Ok (difference (2 * (k * 1000)) (n * 1000))
   unfolding map_of
   fresh-quorum k h s =
       let house = level-lawful n f v in
       told-quorum c fresh_ledger m (rw (lawful-valid c house) (lt-ltb m (2 ^ n) h)) house
-      ∙ ap Signed.Value (fresh-margin ∙ ap (λ x. difference (2 * (x * 1000)) (n * 1000)) s)
+      ∙ ap Ok (fresh-margin ∙ ap (λ x. difference (2 * (x * 1000)) (n * 1000)) s)
 
 -- "At n=4 two fresh servers give 0, at n=5 they give −1,000" (paper 02, N1): each two, for each lawful f.
 pub record TwoFresh : Type 0 where
-  pub of_four : (f m : ℕ) → in_bounds 4 f ≡ true → m < 2 ^ 4 → size 4 (named m) ≡ 2 → quorum_answer (config_of (level 4 f)) fresh_ledger m ≡ Signed.Value (pos 0)
+  pub of_four : (f m : ℕ) → in_bounds 4 f ≡ true → m < 2 ^ 4 → size 4 (named m) ≡ 2 → quorum_answer (config_of (level 4 f)) fresh_ledger m ≡ Ok (pos 0)
   pub of-five : (f m : ℕ) → in_bounds 5 f ≡ true → m < 2 ^ 5 → size 5 (named m) ≡ 2
-      → quorum_answer (config_of (level 5 f)) fresh_ledger m ≡ Signed.Value (negsuc 999)
+      → quorum_answer (config_of (level 5 f)) fresh_ledger m ≡ Ok (negsuc 999)
 
 pub two-fresh : TwoFresh
 unfolding difference

@@ -1,5 +1,6 @@
 -- Bad inputs of the cluster and the ledger, each with its number (paper 01, "Numbers handed out"), and numbers at the ends of their types, by
 -- computation.
+use Rattle.std.specs.Prelude.{Ok, Err, true, false}
 use Prim.Native.Nat.{ℕ, ◌-◌, ◌^◌}
 use mathlib.Core.Path.{◌≡◌, refl}
 use mathlib.Core.List.{◌∷◌, ◌++◌}
@@ -11,11 +12,7 @@ use Rattle.quorums.specs.Accounts.{weight, total, weight_in, margin, above}
 use Rattle.config.specs.Cluster.{level, valid_of, server_of, start_of, total_of, above_of, least_of, config_of, lawful_of, ends_of, starts_above, kept_of, keeps}
 use Rattle.config.specs.Answers.{start_answer, total_answer, least_answer, above_answer}
 use Rattle.config.specs.declared.cluster.Config.{Config}
-use Rattle.config.specs.Refusals.{refusal}
-use Rattle.config.specs.declared.answer.Number.{Number}
-use Rattle.config.specs.declared.answer.Signed.{Signed}
-use Rattle.config.specs.declared.answer.Decision.{Decision}
-use Rattle.config.specs.declared.answer.Verdict.{Verdict}
+use Rattle.config.specs.Refusals.{refusal, granted}
 use Rattle.ledger.specs.declared.ledger.Ledger.{Ledger}
 use Rattle.ledger.specs.Ledgers.{fresh_ledger, given_of, received_of, refused, accepted}
 use Rattle.ledger.specs.Maps.{named, map_of, named_answer}
@@ -36,14 +33,14 @@ five = config_of (level 5 1)
 -- ---- the cluster: n = 0, n = 17, 2f = n, and both numbers at their ends
 
 pub record BadClusters : Type 0 where
-  pub none : total_answer (config_of (level 0 0)) ≡ Number.Refused (refusal 1)
-  pub seventeen : total_answer (config_of (level 17 0)) ≡ Number.Refused (refusal 1)
-  pub half : total_answer (config_of (level 4 2)) ≡ Number.Refused (refusal 1)
-  pub half-of-most : least_answer (config_of (level 16 8)) ≡ Number.Refused (refusal 1)
-  pub most-servers : start_answer (config_of (level most 0)) 0 ≡ Number.Refused (refusal 1)
-  pub most-crashes : above_answer (config_of (level 5 most)) (pos 1000) ≡ Decision.Refused (refusal 1)
-  pub smallest : total_answer (config_of (level 1 0)) ≡ Number.Value 1000
-  pub largest : total_answer (config_of (level 16 7)) ≡ Number.Value 16000
+  pub none : total_answer (config_of (level 0 0)) ≡ Err (refusal 1)
+  pub seventeen : total_answer (config_of (level 17 0)) ≡ Err (refusal 1)
+  pub half : total_answer (config_of (level 4 2)) ≡ Err (refusal 1)
+  pub half-of-most : least_answer (config_of (level 16 8)) ≡ Err (refusal 1)
+  pub most-servers : start_answer (config_of (level most 0)) 0 ≡ Err (refusal 1)
+  pub most-crashes : above_answer (config_of (level 5 most)) (pos 1000) ≡ Err (refusal 1)
+  pub smallest : total_answer (config_of (level 1 0)) ≡ Ok 1000
+  pub largest : total_answer (config_of (level 16 7)) ≡ Ok 16000
 
 pub bad-clusters : BadClusters
 unfolding total_answer least_answer start_answer above_answer valid_of lawful_of ends_of starts_above kept_of keeps table run all above_of above server_of total_of start_of sum
@@ -61,12 +58,12 @@ bad-clusters = record {
 -- ---- the floor of five servers of which one may crash: 625 is not above it, 626 is
 
 pub record Floor : Type 0 where
-  pub at : above_answer five (pos 625) ≡ Decision.No
-  pub over : above_answer five (pos 626) ≡ Decision.Yes
-  pub least : least_answer five ≡ Number.Value 626
-  pub negative : above_answer five (negsuc 0) ≡ Decision.No
-  pub last : above_answer five (pos (2 ^ 63 - 1)) ≡ Decision.Yes
-  pub first : above_answer five (negsuc (2 ^ 63 - 1)) ≡ Decision.No
+  pub at : above_answer five (pos 625) ≡ (Ok false)
+  pub over : above_answer five (pos 626) ≡ (Ok true)
+  pub least : least_answer five ≡ Ok 626
+  pub negative : above_answer five (negsuc 0) ≡ (Ok false)
+  pub last : above_answer five (pos (2 ^ 63 - 1)) ≡ (Ok true)
+  pub first : above_answer five (negsuc (2 ^ 63 - 1)) ≡ (Ok false)
 
 pub floor : Floor
 unfolding above_answer least_answer valid_of lawful_of ends_of starts_above kept_of keeps table run all above_of above least_of total_of start_of sum
@@ -75,16 +72,16 @@ floor = record { at = refl; over = refl; least = refl; negative = refl; last = r
 -- ---- servers and maps that there aren't
 
 pub record BadServers : Type 0 where
-  pub server : weight_answer five fresh_ledger 5 ≡ Signed.Refused (refusal 1)
-  pub last-server : given_answer five fresh_ledger most ≡ Number.Refused (refusal 1)
-  pub received : received_answer five fresh_ledger 5 ≡ Number.Refused (refusal 1)
-  pub bit : quorum_answer five fresh_ledger (2 ^ 5) ≡ Signed.Refused (refusal 1)
-  pub all-bits : quorum_answer five fresh_ledger (2 ^ 16 - 1) ≡ Signed.Refused (refusal 1)
-  pub named-bit : named_answer five (2 ^ 5) ≡ Number.Refused (refusal 1)
-  pub named-all : named_answer five (2 ^ 5 - 1) ≡ Number.Value 5
+  pub server : weight_answer five fresh_ledger 5 ≡ Err (refusal 1)
+  pub last-server : given_answer five fresh_ledger most ≡ Err (refusal 1)
+  pub received : received_answer five fresh_ledger 5 ≡ Err (refusal 1)
+  pub bit : quorum_answer five fresh_ledger (2 ^ 5) ≡ Err (refusal 1)
+  pub all-bits : quorum_answer five fresh_ledger (2 ^ 16 - 1) ≡ Err (refusal 1)
+  pub named-bit : named_answer five (2 ^ 5) ≡ Err (refusal 1)
+  pub named-all : named_answer five (2 ^ 5 - 1) ≡ Ok 5
   -- and the ends of the number: nobody, everybody
-  pub nobody : quorum_answer five fresh_ledger 0 ≡ Signed.Value (negsuc 4999)
-  pub everybody : quorum_answer (config_of (level 16 7)) fresh_ledger (2 ^ 16 - 1) ≡ Signed.Value (pos 16000)
+  pub nobody : quorum_answer five fresh_ledger 0 ≡ Ok (negsuc 4999)
+  pub everybody : quorum_answer (config_of (level 16 7)) fresh_ledger (2 ^ 16 - 1) ≡ Ok (pos 16000)
 
 pub bad-servers : BadServers
 unfolding weight_answer given_answer received_answer quorum_answer named_answer server_of valid_of lawful_of ends_of starts_above kept_of keeps table run all total_of above_of above map_of margin_of margin weight_in weight total difference named size sum_in sum sum_ℤ start_of given_of received_of
@@ -179,15 +176,15 @@ abbrev generous : Ledger
 generous = record { counts = replicate 16 0; cells = replicate 16 4294967295 ++ replicate 240 0 }
 
 pub record Contents : Type 0 where
-  pub full-weight : weight_answer five full 0 ≡ Signed.Value (pos 1000)
-  pub negative-weight : weight_answer five generous 0 ≡ Signed.Value (negsuc 64424508424)
-  pub negative-margin : quorum_answer five generous 1 ≡ Signed.Value (negsuc 128849021849)
-  pub full-bounds : check_answer five full ≡ Verdict.Refused (refusal 4)
-  pub light : check_answer five (gave 1 375) ≡ Verdict.Refused (refusal 5)
-  pub not-light : check_answer five (gave 1 374) ≡ Verdict.Accepted
-  pub floor-alone : floor_answer five full ≡ Verdict.Accepted
-  pub count-alone : check_answer five (gave 2 1) ≡ Verdict.Refused (refusal 4)
-  pub cell-alone : check_answer five (gave 0 1) ≡ Verdict.Refused (refusal 4)
+  pub full-weight : weight_answer five full 0 ≡ Ok (pos 1000)
+  pub negative-weight : weight_answer five generous 0 ≡ Ok (negsuc 64424508424)
+  pub negative-margin : quorum_answer five generous 1 ≡ Ok (negsuc 128849021849)
+  pub full-bounds : check_answer five full ≡ Err (refusal 4)
+  pub light : check_answer five (gave 1 375) ≡ Err (refusal 5)
+  pub not-light : check_answer five (gave 1 374) ≡ granted
+  pub floor-alone : floor_answer five full ≡ granted
+  pub count-alone : check_answer five (gave 2 1) ≡ Err (refusal 4)
+  pub cell-alone : check_answer five (gave 0 1) ≡ Err (refusal 4)
 
 pub contents : Contents
 unfolding weight_answer quorum_answer map_of named margin_of margin weight_in total sum_ℤ check_answer fit_answer floor_answer bounded above_floor may_hold total_fits server_of valid_of lawful_of ends_of starts_above kept_of keeps table run weight_of weight difference above_of above total_of start_of all sum given_of received_of

@@ -1,4 +1,5 @@
 -- Demand 3 is not empty: what the plain machine is shown to do by computation (`nearmiss/proofs/Shown.antt`), the program does. Places count from 0.
+use Rattle.std.specs.Prelude.{Ok, Err}
 use Prim.Native.Nat.{ℕ, ◌%◌}
 use native.Mathlib.Omega.{arith}
 use mathlib.Core.Path.{◌≡◌, refl, sym, ap, ◌∙◌, subst}
@@ -9,7 +10,6 @@ use lib.Dec.{eqb}
 use lib.IntN.{pos, negsuc}
 use Rattle.config.proofs.Houses.{level-fault}
 use Rattle.config.specs.Refusals.{refusal}
-use Rattle.config.specs.declared.answer.Signed.{Signed}
 use Rattle.desk.specs.Margins.{margin_of}
 use Rattle.machine.specs.Parties.{read, write, start}
 use Rattle.machine.specs.Runs.{nth, done, told, desk_at}
@@ -45,12 +45,12 @@ module _ (lent : ℕ → Bool) where
 
   -- what its desk staff see (paper 02, N1)
   pub record Watched : Type 0 where
-    pub before : margin_of (desk_at (run_for lent across) 1 0) ≡ Signed.Refused (refusal 9)
-    pub nobody : margin_of (desk_at (run_for lent across) 1 1) ≡ Signed.Value (negsuc 3999)
-    pub one : margin_of (desk_at (run_for lent across) 1 4) ≡ Signed.Value (negsuc 1999)
-    pub half : margin_of (desk_at (run_for lent across) 1 7) ≡ Signed.Value (pos 0)
-    pub next-phase : margin_of (desk_at (run_for lent across) 1 10) ≡ Signed.Value (negsuc 3999)
-    pub heavier-alone : margin_of (desk_at (run_for lent across) 2 29) ≡ Signed.Value (negsuc 1333)
+    pub before : margin_of (desk_at (run_for lent across) 1 0) ≡ Err (refusal 9)
+    pub nobody : margin_of (desk_at (run_for lent across) 1 1) ≡ Ok (negsuc 3999)
+    pub one : margin_of (desk_at (run_for lent across) 1 4) ≡ Ok (negsuc 1999)
+    pub half : margin_of (desk_at (run_for lent across) 1 7) ≡ Ok (pos 0)
+    pub next-phase : margin_of (desk_at (run_for lent across) 1 10) ≡ Ok (negsuc 3999)
+    pub heavier-alone : margin_of (desk_at (run_for lent across) 2 29) ≡ Ok (negsuc 1333)
 
   pub program-watched : Watched
   unfolding typed_steps are_bytes

@@ -1,5 +1,6 @@
 -- Start weights by hall (paper 02, N2), by computation: which lists open a server and a desk, which are 15, and what is told first; what the calls
 -- that are given a cluster by value answer; and what a fresh server of an uneven house can give.
+use Rattle.std.specs.Prelude.{Ok, Err}
 use Prim.Native.Nat.{ℕ, ◌^◌, ◌≤◌, ◌<◌}
 use native.Mathlib.Omega.{arith}
 use mathlib.Core.Path.{◌≡◌, refl, ap, ◌∙◌}
@@ -12,11 +13,9 @@ use Rattle.quorums.specs.Accounts.{above, weight}
 use Rattle.quorums.specs.Difference.{difference}
 use Rattle.config.specs.Cluster.{House, house_of, valid_of, server_of, start_of, total_of, least_of, above_of, ends_of, starts_above, lawful_of, cluster_fault, lawful_list, house_fault, keeps, kept_of, config_of}
 use Rattle.config.specs.Answers.{start_answer, total_answer, least_answer, config_answer}
-use Rattle.config.specs.Refusals.{refusal}
+use Rattle.config.specs.Refusals.{refusal, granted}
 use Rattle.config.specs.declared.cluster.Config.{Config}
-use Rattle.config.specs.declared.answer.Number.{Number}
-use Rattle.config.specs.declared.answer.Signed.{Signed}
-use Rattle.config.specs.declared.answer.Verdict.{Verdict}
+use Rattle.config.specs.Refusals.{Verdict}
 use Rattle.config.proofs.Houses.{house-told}
 use Rattle.ledger.specs.Ledgers.{fresh_ledger, given_of, received_of}
 use Rattle.ledger.specs.Maps.{map_of, named_answer}
@@ -44,20 +43,20 @@ abbrev one : List ℕ → House
 one starts = house_of 1 0 starts
 
 abbrev bad : Verdict
-bad = Verdict.Refused (refusal 15)
+bad = Err (refusal 15)
 
 pub record Lists : Type 0 where
   -- "n = 2, f = 0: (299, 100), since 100 × 4 > 399"; one more at the other server is at the floor
-  pub uneven : opens (two (299 ∷ 100 ∷ [])) ≡ Verdict.Accepted
+  pub uneven : opens (two (299 ∷ 100 ∷ [])) ≡ granted
   pub at-floor : opens (two (300 ∷ 100 ∷ [])) ≡ bad
   pub at-floor-desk : seats (two (300 ∷ 100 ∷ [])) ≡ bad
-  pub uneven-desk : seats (two (299 ∷ 100 ∷ [])) ≡ Verdict.Accepted
+  pub uneven-desk : seats (two (299 ∷ 100 ∷ [])) ≡ granted
   -- the least and the most that one may weigh
-  pub least-alone : opens (one (1 ∷ [])) ≡ Verdict.Accepted
-  pub most-alone : opens (one (16000 ∷ [])) ≡ Verdict.Accepted
+  pub least-alone : opens (one (1 ∷ [])) ≡ granted
+  pub most-alone : opens (one (16000 ∷ [])) ≡ granted
   pub above_most : opens (one (16001 ∷ [])) ≡ bad
   pub nothing-alone : opens (one (0 ∷ [])) ≡ bad
-  pub most-together : opens (two (8000 ∷ 8000 ∷ [])) ≡ Verdict.Accepted
+  pub most-together : opens (two (8000 ∷ 8000 ∷ [])) ≡ granted
   pub above-together : opens (two (8000 ∷ 8001 ∷ [])) ≡ bad
   -- one short, one long, empty
   pub short : opens (two (1000 ∷ [])) ≡ bad
@@ -71,11 +70,11 @@ pub record Lists : Type 0 where
   pub no-halves : opens (two (2 ^ 63 ∷ 2 ^ 63 ∷ [])) ≡ bad
   pub no_cut : opens (two (66536 ∷ 66536 ∷ [])) ≡ bad
   -- 1 before 15: n, f and the own number
-  pub n-first : opens (house_of 0 0 (1 ∷ [])) ≡ Verdict.Refused (refusal 1)
-  pub f-first : opens (house_of 2 1 (1 ∷ [])) ≡ Verdict.Refused (refusal 1)
-  pub most-first : opens (house_of most 0 []) ≡ Verdict.Refused (refusal 1)
-  pub number-first : (open_of (two []) 2).verdict ≡ Verdict.Refused (refusal 1)
-  pub desk-first : (desk.open_of (two []) 0).verdict ≡ Verdict.Refused (refusal 1)
+  pub n-first : opens (house_of 0 0 (1 ∷ [])) ≡ Err (refusal 1)
+  pub f-first : opens (house_of 2 1 (1 ∷ [])) ≡ Err (refusal 1)
+  pub most-first : opens (house_of most 0 []) ≡ Err (refusal 1)
+  pub number-first : (open_of (two []) 2).verdict ≡ Err (refusal 1)
+  pub desk-first : (desk.open_of (two []) 0).verdict ≡ Err (refusal 1)
 
 pub lists : Lists
 unfolding open_of desk.open_of desk.opens desk.number_lawful server_of valid_of lawful_of ends_of starts_above start_of total_of above_of above kept_of keeps table run all sum
@@ -126,19 +125,19 @@ abbrev torn : List ℕ
 torn = 0 ∷ []
 
 pub record ByValue : Type 0 where
-  pub total : total_answer hall ≡ Number.Value 3000
-  pub least : least_answer hall ≡ Number.Value 501
-  pub starts : start_answer hall 0 ≡ Number.Value 1998
-  pub taken : (config_answer (two (299 ∷ 100 ∷ []))).number ≡ 0
-  pub refused : (config_answer (two (300 ∷ 100 ∷ []))).number ≡ 15
+  pub total : total_answer hall ≡ Ok 3000
+  pub least : least_answer hall ≡ Ok 501
+  pub starts : start_answer hall 0 ≡ Ok 1998
+  pub taken : config_answer (two (299 ∷ 100 ∷ [])) ≡ Ok (record { config = config_of (two (299 ∷ 100 ∷ [])); least = 100 })
+  pub refused : config_answer (two (300 ∷ 100 ∷ [])) ≡ Err (refusal 15)
   pub overfull-fault : cluster_fault overfull ≡ 15
   pub floored-fault : cluster_fault floored ≡ 15
   -- servers named, and a ledger's own weight: 1 for the map or the server, then 15
-  pub named-first : named_answer floored (2 ^ 2) ≡ Number.Refused (refusal 1)
-  pub named_start : named_answer floored 1 ≡ Number.Refused (refusal 15)
-  pub weight-first : weight_answer floored fresh_ledger 2 ≡ Signed.Refused (refusal 1)
-  pub weight-start : weight_answer floored fresh_ledger 1 ≡ Signed.Refused (refusal 15)
-  pub weight : weight_answer hall fresh_ledger 0 ≡ Signed.Value (pos 1998)
+  pub named-first : named_answer floored (2 ^ 2) ≡ Err (refusal 1)
+  pub named_start : named_answer floored 1 ≡ Err (refusal 15)
+  pub weight-first : weight_answer floored fresh_ledger 2 ≡ Err (refusal 1)
+  pub weight-start : weight_answer floored fresh_ledger 1 ≡ Err (refusal 15)
+  pub weight : weight_answer hall fresh_ledger 0 ≡ Ok (pos 1998)
   -- of a message: 15 before the message checks, and 1 before it
   pub torn-start : check floored torn ≡ 15
   pub torn-invalid : check (config_of (house_of 2 1 [])) torn ≡ 1
@@ -167,9 +166,9 @@ by_value = record {
 
 -- "transfers at the floor of such a house pass and fail by one": of the hall's strong server, 1,497 and 1,498; of a weak one, nothing
 pub record Floor : Type 0 where
-  pub strong : (j : ℕ) → j < 3 → (0 ≡ j → ⊥) → (transfer_of (open_of hall_house 0).server j 1497).verdict ≡ Verdict.Accepted
-  pub strong-more : (j : ℕ) → j < 3 → (0 ≡ j → ⊥) → (transfer_of (open_of hall_house 0).server j 1498).verdict ≡ Verdict.Refused (refusal 10)
-  pub weak : (j : ℕ) → j < 3 → (1 ≡ j → ⊥) → (transfer_of (open_of hall_house 1).server j 1).verdict ≡ Verdict.Refused (refusal 10)
+  pub strong : (j : ℕ) → j < 3 → (0 ≡ j → ⊥) → (transfer_of (open_of hall_house 0).server j 1497).verdict ≡ granted
+  pub strong-more : (j : ℕ) → j < 3 → (0 ≡ j → ⊥) → (transfer_of (open_of hall_house 0).server j 1498).verdict ≡ Err (refusal 10)
+  pub weak : (j : ℕ) → j < 3 → (1 ≡ j → ⊥) → (transfer_of (open_of hall_house 1).server j 1).verdict ≡ Err (refusal 10)
 
 hall-taken : house_fault hall_house ≡ 0
 unfolding house_fault lawful_list all sum above

@@ -1,4 +1,4 @@
--- Laws, in reading order: bytes written from a place on, numbers and values, maps, rows, whole messages, those that the reader
+-- Laws, in reading order: what a pen writes, numbers as bytes, maps, rows, whole messages, those that the reader
 -- takes, and the answers.
 pub mod Places
 pub mod Puts

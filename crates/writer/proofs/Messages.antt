@@ -1,15 +1,17 @@
--- A register and a whole message, from what the code has of them, and how long they are.
+-- A head, a register and a whole message, field by field, and how long a message is.
 use Prim.Native.Nat.{ℕ, ◌+◌, ◌*◌, ◌≤◌, min}
 use native.Mathlib.Omega.{arith}
-use mathlib.Core.Path.{◌≡◌, ap, ◌∙◌}
-use mathlib.Core.List.{◌++◌, append_assoc}
-use lib.ListN.{length}
+use mathlib.Core.Path.{◌≡◌, refl, ap, ◌∙◌}
+use mathlib.Core.List.{List, ◌++◌, append_assoc}
+use lib.ListN.{length, get_or, take}
+use lib.Seq.{get_or-take}
 use Rattle.config.specs.Cluster.{stamp_bytes}
 use Rattle.config.specs.declared.cluster.Config.{Config}
 use Rattle.ledger.specs.Ledgers.{count_of, cell_of}
-use Rattle.format.specs.Bytes.{number, stands}
+use Rattle.format.specs.Bytes.{bytes, number, stands}
 use Rattle.format.specs.Table.{head, register_mark, register, row_map, rows, sheet, note, field_map, field_map_of, encode_fields}
 use Rattle.format.proofs.Sizes.{fields-length}
+use Rattle.quorums.proofs.Tables.{is-table}
 use Rattle.replica.specs.declared.value.Value.{Value}
 use Rattle.replica.specs.declared.replica.Replica.{Replica}
 use Rattle.replica.specs.Values.{bytes_of}
@@ -17,6 +19,18 @@ use Rattle.replica.proofs.Values.{bytes-length}
 use Rattle.message.specs.declared.envelope.Envelope.{Envelope}
 use Rattle.message.specs.Envelopes.{carried, fields_of, message_of}
 use Rattle.writer.specs.Outlines.{size_of}
+
+-- the head's fields
+pub head-fields : (map kind server desk round : ℕ)
+    → head map kind server desk round ≡ bytes 2 map ++ bytes 1 kind ++ bytes 1 server ++ number desk 2 desk ++ number round 4 round
+unfolding head number
+head-fields map kind server desk round = refl
+
+-- the bytes of a value of at most 64, as they are lent
+pub lent_value : (v : Value) (lent : List ℕ) → v.length ≤ 64 → (lent ≡ take (min v.length 64) v.bytes) × (length lent ≡ min v.length 64) → lent ≡ bytes_of v
+unfolding bytes_of
+lent_value v lent h e =
+    is-table v.length _ lent (omega (arith, e.1)) (λ k l. ap (λ xs. get_or xs k 0) e.0 ∙ get_or-take (min v.length 64) v.bytes k 0 (omega arith))
 
 -- a register whose value has at most 64 bytes
 pub register-written : (c : Config) (stamp desk : ℕ) (v : Value) → v.length ≤ 64

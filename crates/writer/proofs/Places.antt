@@ -1,27 +1,23 @@
--- Laws of `onto`: writing nothing, one byte, and one part after the other, each from the place after the one before it. The writers of fields, straight on or
--- in a loop, are one argument: of m parts the first n are written.
+-- Laws of `onto`: writing nothing, and one part after the other, each from the place after the one before it. The writers of fields, straight on or in a
+-- loop, are one argument: of m parts a pen has written the first n.
 use Prim.Native.Nat.{ℕ, zero, suc, ◌+◌, ◌≤◌, ◌<◌}
 use native.Mathlib.Numerals.{add-one}
 use native.Mathlib.Omega.{arith}
 use mathlib.Core.Path.{◌≡◌, refl, sym, ap, ◌∙◌}
 use mathlib.Core.Logic.{⊎_elim}
-use mathlib.Core.List.{List, [], ◌∷◌, ◌++◌, append_assoc, append-nil}
-use lib.ListN.{length, take, drop, set, length-append, length-take, length-drop, take-append-drop}
-use lib.Seq.{length-take-le, take_at, drop_at, take-take, take-append-le, drop-drop, set_split}
+use mathlib.Core.List.{List, [], ◌++◌, append_assoc, append-nil}
+use lib.ListN.{length, take, drop, length-append, length-take, length-drop, take-append-drop}
+use lib.Seq.{length-take-le, take_at, drop_at, take-take, take-append-le, drop-drop}
 use Rattle.quorums.proofs.Sums.{below_suc}
 use Rattle.format.specs.Bytes.{series}
 use Rattle.format.proofs.Lengths.{series-next, series-le, series-fits}
 use Rattle.message.specs.Answers.{over}
-use Rattle.writer.specs.Places.{onto}
+use Rattle.writer.specs.declared.pen.Pen.{Pen}
+use Rattle.writer.specs.Places.{onto, HasRoom, Puts}
 
 pub onto-nothing : (l : List ℕ) (at : ℕ) → onto [] l at ≡ l
 unfolding onto over
 onto-nothing l at = take-append-drop at l
-
--- a byte that is set is written
-pub onto-byte : (l : List ℕ) (at b : ℕ) → at < length l → set l at b ≡ onto (b ∷ []) l at
-unfolding onto over
-onto-byte l at b h = set_split l at b h ∙ rw (drop-drop, add-one)
 
 pub onto-length : (e l : List ℕ) (at : ℕ) → at + length e ≤ length l → length (onto e l at) ≡ length l
 unfolding onto over
@@ -58,12 +54,6 @@ onto-between a b f l at p q ep eq h =
     ∙ onto-after a (b ++ f) l at (omega arith)
     ∙ ap (λ x. onto x l at) (sym (append_assoc a b f))
 
--- of m parts the first n are written onto the entry's buffer from `at` on, and p is the place after them
-pub record Written (n m : ℕ) (part : ℕ → List ℕ) (entry out : List ℕ) (at p : ℕ) : Type 0 where
-  pub is-buffer : out ≡ onto (series n part) entry at
-  pub is-place : p ≡ at + length (series n part)
-  pub room : at + length (series m part) ≤ length entry
-
 -- parts from k on that have no bytes
 series-cut : (n k : ℕ) (f : ℕ → List ℕ) → k ≤ n → ((i : ℕ) → k ≤ i → i < n → f i ≡ []) → series n f ≡ series k f
 series-cut zero k f l none = let e : k ≡ 0 = omega arith in rw e refl
@@ -76,46 +66,47 @@ series-cut (suc n) k f l none =
     ∙ series-cut n k f (omega arith) (λ i a b. none i a (omega arith)))
     (below_suc (omega arith))
 
-pub written_none : (m : ℕ) (part : ℕ → List ℕ) (l : List ℕ) (at : ℕ) → at + length (series m part) ≤ length l → Written 0 m part l l at at
+-- nothing is written
+pub puts-nothing : {e : List ℕ} {p : Pen} → e ≡ [] → Puts e p p
+puts-nothing {e} {p} none = record { written = rw none (sym (onto-nothing p.out.now p.at)); place = rw none (omega arith); same = refl }
+
+-- of m parts the first n are written by the pen p, which is then q
+pub record Written (n m : ℕ) (part : ℕ → List ℕ) (p q : Pen) : Type 0 where
+  pub puts : Puts (series n part) p q
+  pub room : HasRoom (series m part) p
+
+pub written_none : (m : ℕ) (part : ℕ → List ℕ) (p : Pen) → HasRoom (series m part) p → Written 0 m part p p
 unfolding series
-written_none m part l at h = record { is-buffer = sym (onto-nothing l at); is-place = omega arith; room = h }
+written_none m part p h = record { puts = puts-nothing refl; room = h }
 
-module _ {n m : ℕ} {part : ℕ → List ℕ} {l out : List ℕ} {at p : ℕ} (w : Written n m part l out at p) where
-  pub written-length : n ≤ m → length out ≡ length l
-  written-length h = ap length w.is-buffer ∙ onto-length (series n part) l at (omega (arith, w.room, series-le n m part h))
-
+module _ {n m : ℕ} {part : ℕ → List ℕ} {p q : Pen} (w : Written n m part p q) where
   -- the next part has room
-  pub written-room : n < m → p + length (part n) ≤ length out
-  written-room h = omega (arith, w.is-place, w.room, series-fits n m part h, written-length (omega arith))
+  pub written-room : n < m → HasRoom (part n) q
+  written-room h =
+      let fits = series-fits n m part h in
+      let long = onto-length (series n part) p.out.now p.at (omega (arith, w.room.room, series-le n m part (omega arith))) in
+      record { room = omega (arith, w.puts.place, w.room.room, fits, ap length w.puts.written, long) }
 
-  -- and a writer of it writes one part more
-  pub written_next : {out' : List ℕ} {p' : ℕ} → (out' ≡ onto (part n) out p) × (p' ≡ p + length (part n)) → Written (n + 1) m part l out' at p'
-  written_next {out'} {p'} put =
+  -- and a pen that writes it writes one part more
+  pub written_next : {r : Pen} → Puts (part n) q r → Written (n + 1) m part p r
+  written_next put =
       let e : series (n + 1) part ≡ series n part ++ part n = rw add-one (series-next n part) in
+      let puts = w.puts in
       record {
-        is-buffer = put.0 ∙ rw (w.is-buffer, w.is-place, e) (onto-after (series n part) (part n) l at (omega (arith, w.room)));
-        is-place = rw (e, length-append) (omega (arith, w.is-place, put.1));
+        puts = record {
+          written = put.written ∙ rw (puts.written, puts.place, e) (onto-after (series n part) (part n) p.out.now p.at (omega (arith, w.room.room)));
+          place = rw (e, length-append) (omega (arith, puts.place, put.place));
+          same = put.same ∙ puts.same;
+        };
         room = w.room;
       }
 
   -- and so are all, where the others have no bytes
-  pub written-rest : n ≤ m → ((k : ℕ) → n ≤ k → k < m → part k ≡ []) → Written m m part l out at p
-  written-rest h none =
-      let e : series m part ≡ series n part = series-cut m n part h none in
-      record {
-        is-buffer = w.is-buffer ∙ ap (λ x. onto x l at) (sym e);
-        is-place = w.is-place ∙ ap (λ x. at + length x) (sym e);
-        room = w.room;
-      }
+  pub written-rest : n ≤ m → ((k : ℕ) → n ≤ k → k < m → part k ≡ []) → Written m m part p q
+  written-rest h none = record { puts = rw (series-cut m n part h none) w.puts; room = w.room }
 
   -- all parts, which make e
-  pub written_all : {e : List ℕ} → n ≡ m → series m part ≡ e → (out ≡ onto e l at) × (p ≡ at + length e)
+  pub written_all : {e : List ℕ} → n ≡ m → series m part ≡ e → Puts e p q
   written_all {e} done whole =
       let s : series n part ≡ e = rw done whole in
-      (w.is-buffer ∙ ap (λ x. onto x l at) s, w.is-place ∙ ap (λ x. at + length x) s)
-
--- all parts from the front of a buffer on
-pub written-front : {n m : ℕ} {part : ℕ → List ℕ} {l out : List ℕ} {p : ℕ} → Written n m part l out 0 p → {e : List ℕ} → n ≡ m → series m part ≡ e
-    → (out ≡ over e l) × (p ≡ length e)
-unfolding onto
-written-front w {e} done whole = let all = written_all w done whole in (all.0, omega (arith, all.1))
+      rw s at w.puts

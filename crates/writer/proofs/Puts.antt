@@ -1,33 +1,45 @@
--- Numbers and values written byte by byte: each turn of the loops keeps what is to be written.
-use Prim.Native.Nat.{ℕ, zero, suc, ◌+◌, ◌-◌, ◌/◌, ◌%◌, ◌≤◌, ◌<◌}
-use native.Mathlib.Numerals.{add-one}
+-- Numbers as their bytes: the last of the eight that a number has, and none where it is absent.
+use Rattle.std.proofs.lemmas.List.{take_all}
+use Prim.Native.Nat.{ℕ, zero, suc, ◌-◌, ◌/◌, ◌%◌, ◌^◌, ◌≤◌, ◌<◌}
+use native.Mathlib.Nat.{div-div-eq-div-mul, pow-succ'}
 use native.Mathlib.Omega.{arith}
-use mathlib.Core.Path.{◌≡◌, refl, sym, ap, ◌∙◌}
-use mathlib.Core.List.{List, [], ◌∷◌}
-use lib.ListN.{length, get_or, take, set}
-use lib.Seq.{length-take-le, take-suc}
+use mathlib.Core.Path.{◌≡◌, refl, sym, ap, ap₂, ◌∙◌}
+use mathlib.Core.Logic.{⊎_elim}
+use mathlib.Core.List.{List, [], ◌∷◌, ◌++◌}
+use lib.ListN.{take, drop}
+use Rattle.std.specs.Int.{bytes_high_first, byte_at}
+use Rattle.quorums.proofs.Sums.{below_suc}
 use Rattle.format.specs.Bytes.{bytes, number}
 use Rattle.format.proofs.Lengths.{bytes-length}
-use Rattle.writer.specs.Places.{onto}
-use Rattle.writer.proofs.Places.{onto-nothing, onto-byte, onto-length, onto-after, onto-before}
 
--- a number goes in from its low byte, the last one, down
-suc-down : (k x : ℕ) (out : List ℕ) (at : ℕ) → at + k < length out
-    → onto (bytes k (x / 256)) (set out (at + k) (x % 256)) at ≡ onto (bytes (suc k) x) out at
+-- a byte of a number is the one before it of the number without its low byte
+byte-next : (k x : ℕ) → byte_at (suc k) x ≡ byte_at k (x / 256)
+byte-next zero x = refl
+byte-next (suc k) x = ap (λ n. n % 256) (ap (λ n. x / n) (pow-succ' 256 (suc k)) ∙ sym (div-div-eq-div-mul x 256 (256 ^ suc k)))
+
+-- the low byte comes last
+low-last : (w x : ℕ) → bytes_high_first (suc w) x ≡ bytes_high_first w (x / 256) ++ (x % 256 ∷ [])
+low-last zero x = refl
+low-last (suc w) x = ap₂ (λ (b : ℕ) (l : List ℕ). b ∷ l) (byte-next w x) (low-last w x)
+
+high-first : (w x : ℕ) → bytes_high_first w x ≡ bytes w x
 unfolding bytes
-suc-down k x out at h =
-    let l = bytes-length k (x / 256) in
-    rw (onto-byte out (at + k) (x % 256) h) (rw l at (onto-before (bytes k (x / 256)) (x % 256 ∷ []) out at (rw l (omega arith))))
+high-first zero x = refl
+high-first (suc w) x = low-last w x ∙ ap (λ l. l ++ (x % 256 ∷ [])) (high-first w (x / 256))
 
-pub number-down : (k x : ℕ) (out : List ℕ) (at : ℕ) → 0 < k → at + k ≤ length out
-    → onto (bytes (k - 1) (x / 256)) (set out (at + (k - 1)) (x % 256)) at ≡ onto (bytes k x) out at
-number-down k x out at pos h =
-    let e : k ≡ suc (k - 1) = omega arith in
-    suc-down (k - 1) x out at (omega arith) ∙ ap (λ (n : ℕ). onto (bytes n x) out at) (sym e)
+-- the last w bytes of n
+last-bytes : (n w x : ℕ) → w ≤ n → drop (n - w) (bytes_high_first n x) ≡ bytes_high_first w x
+last-bytes zero w x h = let e : w ≡ 0 = omega arith in rw e refl
+last-bytes (suc n) w x h =
+    ⊎_elim (λ (d : w ≡ suc n). let e : suc n - w ≡ 0 = omega arith in rw (e, d) refl)
+    (λ (d : w < suc n). let e : suc n - w ≡ suc (n - w) = omega arith in rw e (last-bytes n w x (omega arith)))
+    (below_suc (omega arith))
 
-pub number-done : (k x : ℕ) (out : List ℕ) (at : ℕ) → k ≡ 0 → onto (bytes k x) out at ≡ out
-unfolding bytes
-number-done k x out at e = rw e (onto-nothing out at)
+-- as they are lent
+pub lent_bytes : (w x : ℕ) (all : List ℕ) → w ≤ 8 → all ≡ bytes_high_first 8 x → take (8 - (8 - w)) (drop (8 - w) all) ≡ bytes w x
+lent_bytes w x all h e =
+    let last : drop (8 - w) all ≡ bytes w x = ap (drop (8 - w)) e ∙ last-bytes 8 w x h ∙ high-first w x in
+    ap (take (8 - (8 - w))) last ∙ take_all (8 - (8 - w)) (bytes w x) (omega (arith, bytes-length w x))
 
 -- a number that is absent, and one that stands
 pub number-absent : (s w x : ℕ) → s ≡ 0 → number s w x ≡ []
@@ -38,16 +50,3 @@ pub number-present : (s w x : ℕ) → (s ≡ 0 → ⊥) → number s w x ≡ by
 unfolding number
 number-present zero w x ne = absurd (ne refl)
 number-present (suc s) w x ne = refl
-
-pub present-length : (s w x : ℕ) → (s ≡ 0 → ⊥) → length (number s w x) ≡ w
-present-length s w x ne = ap length (number-present s w x ne) ∙ bytes-length w x
-
--- a value goes in from its first byte up
-pub value-up : (k : ℕ) (v out : List ℕ) (at : ℕ) → k < length v → at + k < length out
-    → set (onto (take k v) out at) (at + k) (get_or v k 0) ≡ onto (take (k + 1) v) out at
-value-up k v out at h room =
-    let l : length (take k v) ≡ k = length-take-le k v (omega arith) in
-    let same = onto-length (take k v) out at (omega arith) in
-    onto-byte (onto (take k v) out at) (at + k) (get_or v k 0) (omega arith)
-    ∙ rw l at (onto-after (take k v) (get_or v k 0 ∷ []) out at (omega arith))
-    ∙ rw (add-one, take-suc v k 0)

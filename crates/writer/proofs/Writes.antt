@@ -1,4 +1,5 @@
 -- What a write answers and leaves in the buffer: refused, taken, and then too long or done.
+use Rattle.std.specs.Prelude.{Ok, Err}
 use Prim.Native.Nat.{ℕ, ◌+◌, ◌-◌, ◌≤◌, ◌<◌}
 use native.Mathlib.Nat.{le_refl}
 use mathlib.Core.Path.{◌≡◌, ap}
@@ -7,9 +8,7 @@ use borrow.Author.Tests.{eq-eqb, le-leb, lt-leb}
 use lib.ListN.{length, take, drop, length-drop, drop_of_length-le}
 use lib.Seq.{length-take-le, take_all}
 use Rattle.config.specs.declared.cluster.Config.{Config}
-use Rattle.config.specs.declared.answer.Number.{Number}
 use Rattle.config.specs.declared.answer.Refusal.{Refusal}
-use Rattle.config.specs.declared.answer.Verdict.{Verdict}
 use Rattle.config.specs.Refusals.{refusal}
 use Rattle.replica.specs.declared.replica.Replica.{Replica}
 use Rattle.message.specs.declared.envelope.Envelope.{Envelope}
@@ -32,19 +31,19 @@ pub in_parts : {w v : Written} → w ≡ v → (w.answer ≡ v.answer) × (w.out
 in_parts e = (ap (λ (x : Written). x.answer) e, ap (λ (x : Written). x.out) e)
 
 module _ (c : Config) (e : Envelope) (r : Replica) (out : List ℕ) (at : ℕ) where
-  pub write-refused : (k : Refusal) → verdict_of (check c (message_of c e r)) ≡ Verdict.Refused k
-      → (Number.Refused k ≡ (write_of c e r out at).answer) × (out ≡ (write_of c e r out at).out)
+  pub write-refused : (k : Refusal) → verdict_of (check c (message_of c e r)) ≡ Err k
+      → (Err k ≡ (write_of c e r out at).answer) × (out ≡ (write_of c e r out at).out)
   unfolding write_of
   write-refused k found =
       in_parts
-      (verdict-refused (check c (message_of c e r)) k (place (message_of c e r) out at) (λ (x : Refusal). record { answer = Number.Refused x; out = out }) found)
+      (verdict-refused (check c (message_of c e r)) k (place (message_of c e r) out at) (λ (x : Refusal). record { answer = Err x; out = out }) found)
 
   pub write-taken : check c (message_of c e r) ≡ 0 → place (message_of c e r) out at ≡ write_of c e r out at
   unfolding write_of
   write-taken found = rw (eq-eqb (check c (message_of c e r)) 0 found)
 
 module _ (m out : List ℕ) (at : ℕ) where
-  pub place-narrow : length out < at + length m → (Number.Refused (refusal 13) ≡ (place m out at).answer) × (out ≡ (place m out at).out)
+  pub place-narrow : length out < at + length m → (Err (refusal 13) ≡ (place m out at).answer) × (out ≡ (place m out at).out)
   unfolding place fits
   place-narrow long = let narrow = lt-leb (at + length m) (length out) long in (rw narrow, rw narrow)
 
@@ -57,7 +56,7 @@ module _ (m out : List ℕ) (at : ℕ) where
       rw (none, append-nil, given, whole)
 
   pub place-done : (ys : List ℕ) (n : ℕ) → at + length m ≤ length out → ys ≡ over m (lent at out) → n ≡ length m
-      → (Number.Value (at + n) ≡ (place m out at).answer) × (back at out ys ≡ (place m out at).out)
+      → (Ok (at + n) ≡ (place m out at).answer) × (back at out ys ≡ (place m out at).out)
   unfolding place fits
   place-done ys n room given end =
       let wide = le-leb (at + length m) (length out) room in

@@ -4,8 +4,10 @@
 mod call;
 mod fault;
 mod field;
+mod known;
+mod outgoing;
 mod outline;
-mod put;
+mod pen;
 mod whole;
 
-pub use call::{send_lent, write};
+pub use call::{send, write};

@@ -1,127 +1,137 @@
 // What of an envelope and a replica stands in their message, and whether there is room for it.
 ghost use Rattle.std.specs.Prelude.{◌≡◌, ◌+◌, ◌*◌, ◌≤◌, ltb, length, get_or};
 ghost use Rattle.quorums.specs.Sum.{sum};
-ghost use Rattle.format.specs.Bytes.{stands as stands_of, marks};
+ghost use Rattle.ledger.specs.Ledgers.{count_of, cell_of};
+ghost use Rattle.format.specs.Bytes.{stands, marks};
 ghost use Rattle.format.specs.Table.{register_mark, row as row_of, rows as rows_of, field_map};
-ghost use Rattle.replica.specs.Parts.{replica_of};
 ghost use Rattle.message.specs.Envelopes.{message_of};
-ghost use Rattle.writer.specs.Outlines.{Counted, size_of};
+ghost use Rattle.writer.specs.Outlines.{Counted, Small, size_of, marks_of};
 
+use super::outgoing::Outgoing;
 use config::Config;
+use ledger::Ledger;
 use message::Envelope;
 use replica::Register;
 
 // No message that the reader takes is longer.
 const LONGEST: usize = 1111;
 
-// 1 for a number that isn't 0.
-pub(crate) fn mark(x: u64) -> u64
-    ensures { (result ≡ stands_of x) × (result ≤ 1) }
-{
-    if x == 0 {
-        return 0;
-    }
-    1
+// Which fields stand: 1 for each that does, numbers and no flags, since they are what the map and the size are added up from.
+#[derive(Clone, Copy)]
+struct Marks {
+    pub desk: u64,
+    pub round: u64,
+    pub register: u64,
+    pub sheet: u64,
+    pub note: u64,
 }
 
-// The counts that stand: the row map of a ledger in which every row whose count is 0 is empty.
-pub(crate) fn row_map(counts: &[u16]) -> u64
-    requires { length counts.now ≡ 16 }
+impl Marks {
+    // By an envelope and a register, and the row map of the rows.
+    fn of(envelope: &Envelope, register: &Register, rows: u64) -> Marks
+        ensures marks { result ≡ marks_of envelope.now register.now rows }
+        ensures small { Small result }
+    {
+        let tag = u64::from(register.stamp) + u64::from(register.desk);
+        Marks {
+            desk: mark(u64::from(envelope.desk)),
+            round: mark(u64::from(envelope.round)),
+            register: mark(tag + u64::from(register.value.length)),
+            sheet: mark(rows),
+            note: mark(u64::from(envelope.note)),
+        }
+    }
+}
+
+// 1 for a number that isn't 0.
+fn mark(x: u64) -> u64
+    ensures { (result ≡ stands x) × (result ≤ 1) }
+{
+    u64::from(x != 0)
+}
+
+// The row map of a ledger in which every row whose count is 0 is empty: the counts that stand.
+pub(crate) fn row_map(counts: &[u16; 16]) -> u64
     ensures { result ≡ marks 16 (λ i. get_or counts.now i 0) }
 {
-    let mut map: u64 = 0;
-    let mut power: u64 = 1;
-    let mut i: usize = 0;
-    while i < 16 {
-        map += mark(counts[i] as u64) * power;
-        power *= 2;
-        i += 1;
+    let mut map: u16 = 0;
+    for (i, &count) in counts.iter().enumerate() {
+        map += u16::from(count != 0) << i;
     }
-    map
+    u64::from(map)
 }
 
 // A message's map, from its envelope and register, and the row map of its rows.
-pub(crate) fn field_map(envelope: Envelope, register: Register, rows: u64) -> u64
-    ensures { result ≡ field_map envelope.desk envelope.round (register_mark register.stamp register.desk register.value.length) rows envelope.note }
+pub(crate) fn field_map(envelope: &Envelope, register: &Register, rows: u64) -> u64
+    ensures { result ≡ field_map envelope.now.desk envelope.now.round (register_mark register.now.stamp register.now.desk register.now.value.length) rows envelope.now.note }
 {
-    let length = register.value.length as u64;
-    let desk = mark(envelope.desk as u64);
-    let round = mark(envelope.round as u64);
-    let tagged = mark((register.stamp as u64) + (register.desk as u64) + length);
-    let sheet = mark(rows);
-    let note = mark(envelope.note as u64);
-    3 + 4 * desk + 8 * round + 16 * tagged + 32 * sheet + 64 * note
+    let marks = Marks::of(envelope, register, rows);
+    3 + 4 * marks.desk + 8 * marks.round + 16 * marks.register + 32 * marks.sheet + 64 * marks.note
 }
 
-// Whether there is less room than a message needs. Its size is found only where the room is less than the longest message needs.
-pub(crate) fn narrow(
-    config: Config,
-    envelope: Envelope,
-    counts: &[u16],
-    cells: &[u32],
-    register: Register,
-    room: usize,
-) -> bool
-    requires { (length counts.now ≡ 16) × (length cells.now ≡ 256) × Counted counts.now cells.now × (length (message_of config envelope (replica_of counts.now cells.now register)) ≤ 1111) }
-    ensures { result ≡ ltb room (length (message_of config envelope (replica_of counts.now cells.now register))) }
-{
-    if LONGEST <= room {
-        return false;
+impl Outgoing<'_> {
+    // Whether there is less room than the message needs. Its size is found only where the room is less than the longest message needs.
+    pub(crate) fn narrow(&self, room: usize) -> bool
+        requires { Counted self.now.replica.now.ledger × (length (message_of self.now.config.now self.now.envelope.now self.now.replica.now) ≤ 1111) }
+        ensures { result ≡ ltb room (length (message_of self.now.config.now self.now.envelope.now self.now.replica.now)) }
+    {
+        if LONGEST <= room {
+            return false;
+        }
+        let rows = row_map(&self.replica.ledger.counts);
+        let bytes = rows_bytes(&self.replica.ledger);
+        (room as u64)
+            < measure(
+                self.config,
+                self.envelope,
+                &self.replica.register,
+                rows,
+                bytes,
+            )
     }
-    let rows = row_map(counts);
-    let bytes = rows_bytes(counts, cells);
-    (room as u64) < measure(config, envelope, register, rows, bytes)
 }
 
 // How many bytes the rows of a ledger take in which every row whose count is 0 is empty.
-fn rows_bytes(counts: &[u16], cells: &[u32]) -> u64
-    requires { (length counts.now ≡ 16) × (length cells.now ≡ 256) × Counted counts.now cells.now }
-    ensures { (result ≡ length (rows_of (λ i. get_or counts.now i 0) (λ i j. get_or cells.now (i * 16 + j) 0))) × (result ≤ 1088) }
+fn rows_bytes(ledger: &Ledger) -> u64
+    requires { Counted ledger.now }
+    ensures { (result ≡ length (rows_of (count_of ledger.now) (cell_of ledger.now))) × (result ≤ 1088) }
 {
     let mut bytes: u64 = 0;
-    let mut i: usize = 0;
-    while i < 16 {
-        let a = i * 16;
-        let e = a + 16;
-        bytes += row_bytes(counts[i] as u64, &cells[a..e]);
-        i += 1;
+    let (rows, _) = ledger.cells.as_chunks::<16>();
+    for (&count, row) in ledger.counts.iter().zip(rows) {
+        bytes += row_bytes(count, row);
     }
     bytes
 }
 
 // The same of one row.
-fn row_bytes(count: u64, row: &[u32]) -> u64
+fn row_bytes(count: u16, row: &[u32]) -> u64
     requires { (length row.now ≡ 16) × (count ≡ 0 → sum 16 (λ j. get_or row.now j 0) ≡ 0) }
     ensures { (result ≡ length (row_of count (λ j. get_or row.now j 0))) × (result ≤ 68) }
 {
     if count == 0 {
         return 0;
     }
-    let mut bytes: u64 = 4;
-    let mut j: usize = 0;
-    while j < 16 {
-        bytes += 4 * mark(row[j] as u64);
-        j += 1;
+    let mut bytes: u32 = 4;
+    for &cell in row {
+        bytes += 4 * u32::from(cell != 0);
     }
-    bytes
+    u64::from(bytes)
 }
 
 // The size of a message, from its envelope and register, and the row map and bytes of its rows.
-fn measure(config: Config, envelope: Envelope, register: Register, rows: u64, bytes: u64) -> u64
+#[tactic(auto, unfolding(config::specs::Cluster::stamp_bytes))]
+fn measure(config: &Config, envelope: &Envelope, register: &Register, rows: u64, bytes: u64) -> u64
     requires { bytes ≤ 1088 }
-    ensures { result ≡ size_of config envelope register rows bytes }
+    ensures { result ≡ size_of config.now envelope.now register.now rows bytes }
 {
-    let length = register.value.length as u64;
-    let desk = mark(envelope.desk as u64);
-    let round = mark(envelope.round as u64);
-    let tagged = mark((register.stamp as u64) + (register.desk as u64) + length);
-    let sheet = mark(rows);
-    let note = mark(envelope.note as u64);
-    4 + 2 * desk
-        + 4 * round
-        + (config.stamp_bytes() + 3) * tagged
-        + length
-        + 2 * sheet
+    let marks = Marks::of(envelope, register, rows);
+    let length = register.value.length;
+    4 + 2 * marks.desk
+        + 4 * marks.round
+        + (config.stamp_bytes() + 3) * marks.register
+        + u64::from(length)
+        + 2 * marks.sheet
         + bytes
-        + 4 * note
+        + 4 * marks.note
 }

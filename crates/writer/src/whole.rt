@@ -1,36 +1,49 @@
-// A whole message into the front of a buffer.
+// A whole message.
 ghost use Rattle.std.specs.Prelude.{◌≡◌, ◌≤◌, length};
-ghost use Rattle.replica.specs.Parts.{replica_of};
-ghost use Rattle.message.specs.Envelopes.{message_of};
 ghost use Rattle.message.specs.Answers.{over};
+ghost use Rattle.message.specs.Envelopes.{message_of};
 ghost use Rattle.writer.specs.Outlines.{Counted, CountsBelow};
+ghost use Rattle.writer.specs.Places.{HasRoom, Puts};
 
-use super::field::{put_head, put_register, put_rows};
+use super::outgoing::Outgoing;
 use super::outline::{field_map, row_map};
-use super::put::put_number;
-use config::Config;
-use message::Envelope;
-use replica::Register;
+use super::pen::Pen;
 
-// Counts and cells are lent beside the register: taken out of a replica here, they would be copied. The rows from n on are empty, as is every
-// row whose count is 0.
-pub(crate) fn fill(
-    out: &mut [u8],
-    config: Config,
-    envelope: Envelope,
-    register: Register,
-    counts: &[u16],
-    cells: &[u32],
-) -> usize
-    requires { (length counts.now ≡ 16) × (length cells.now ≡ 256) × (register.value.length ≤ 64) × Counted counts.now cells.now × (config.n ≤ 16) × CountsBelow config.n counts.now × (length (message_of config envelope (replica_of counts.now cells.now register)) ≤ length out.old) }
-    ensures { (out.new ≡ over (message_of config envelope (replica_of counts.now cells.now register)) out.old) × (result ≡ length (message_of config envelope (replica_of counts.now cells.now register))) }
-{
-    let rows = row_map(counts);
-    let map = field_map(envelope, register, rows);
-    let note = envelope.note as u64;
-    let p = put_head(out, 0, map, envelope);
-    let p = put_register(out, p, config, register);
-    let p = put_number(out, p, rows, 2, rows);
-    let p = put_rows(out, p, counts, cells, config.n as usize);
-    put_number(out, p, note, 4, note)
+impl Outgoing<'_> {
+    // The message at the front of a buffer, and how long it is.
+    #[tactic(auto, unfolding(crate::specs::Places::onto))]
+    pub(crate) fn fill(&self, out: &mut [u8]) -> usize
+        requires { (self.now.replica.now.register.value.length ≤ 64) × Counted self.now.replica.now.ledger × (self.now.config.now.n ≤ 16) × CountsBelow self.now.config.now.n self.now.replica.now.ledger × (length (message_of self.now.config.now self.now.envelope.now self.now.replica.now) ≤ length out.old) }
+        ensures { (out.new ≡ over (message_of self.now.config.now self.now.envelope.now self.now.replica.now) out.old) × (result ≡ length (message_of self.now.config.now self.now.envelope.now self.now.replica.now)) }
+    {
+        let mut pen = Pen { out, at: 0 };
+        pen.message(self);
+        pen.at
+    }
+}
+
+impl Pen<'_> {
+    // The rows from n on are empty, as is every row whose count is 0.
+    fn message(&mut self, outgoing: &Outgoing)
+        requires short { outgoing.now.replica.now.register.value.length ≤ 64 }
+        requires counted { Counted outgoing.now.replica.now.ledger }
+        requires most { outgoing.now.config.now.n ≤ 16 }
+        requires below { CountsBelow outgoing.now.config.now.n outgoing.now.replica.now.ledger }
+        requires room { HasRoom (message_of outgoing.now.config.now outgoing.now.envelope.now outgoing.now.replica.now) self.old }
+        ensures { Puts (message_of outgoing.now.config.now outgoing.now.envelope.now outgoing.now.replica.now) self.old self.new }
+    {
+        let Outgoing {
+            config,
+            envelope,
+            replica,
+        } = *outgoing;
+        let rows = row_map(&replica.ledger.counts);
+        let map = field_map(envelope, &replica.register, rows);
+        let note = u64::from(envelope.note);
+        self.head(map, envelope);
+        self.register(config, &replica.register);
+        self.number(rows, 2, rows);
+        self.rows(&replica.ledger, config.n as usize);
+        self.number(note, 4, note);
+    }
 }

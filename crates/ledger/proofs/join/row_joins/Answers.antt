@@ -13,4 +13,5 @@ returns-then-other_count-count c = simp (le-ltb _ _ c.if-count-other_count.false
 
 pub returns : goal.returns
 unfolding agree
-returns c = simp (le-ltb _ _ c.if-count-other_count.false, le-ltb _ _ c.if-other_count-count.false) c.same_cells.ensures
+returns c =
+    simp (le-ltb _ _ c.if-count-other_count.false, le-ltb _ _ c.if-other_count-count.false) c.same_cells.ensures

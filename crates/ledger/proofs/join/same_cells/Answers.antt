@@ -1,19 +1,18 @@
--- `same_cells` meets its contract: after j turns `so_far` tells whether the first j cells are the same.
-use native.Mathlib.Omega.{arith}
-use mathlib.Core.Path.{◌≡◌, sym}
+-- `same_cells` meets its contract: `so_far` tells of the cells that have been looked at.
+use borrow.Author.Rules.{rules}
+use lib.Dec.{eqb}
+use mathlib.Core.Path.{sym, ap₂}
 use Rattle.quorums.proofs.Sums.{all_none}
-use Rattle.quorums.proofs.Sums.{all-turn}
+use Rattle.std.proofs.lemmas.Slice.Zip.{zip_turn}
+use Rattle.ledger.proofs.Rows.{all-yielded}
 use Rattle.ledger.proofs.join.same_cells.Goals as goal
 
-pub loop-j-init : goal.loop-j-init
-loop-j-init c = (omega arith, sym (all_none _))
+pub loop-cell-init : goal.loop-cell-init
+loop-cell-init c = sym (all_none _)
 
-pub loop-j-preserved : goal.loop-j-preserved
-loop-j-preserved c =
-    let turn = c.loop-j in
-    (omega arith, all-turn turn.j _ _ _ turn.invariant.1 c.both-so_far.ensures)
-
-pub returns : goal.returns
-returns c =
-    let e : c.loop-j.j ≡ 16 = omega arith in
-    rw e at c.loop-j.invariant.1
+pub loop-cell-preserved : goal.loop-cell-preserved
+loop-cell-preserved c =
+    let l = c.loop-cell in
+    let s = c.into_iter-cell-iterator.result in
+    let t = zip_turn c.args.row.now c.args.other_row.now l.yielded s l.cell-iterator c.next.new.self _ (search rules) (search rules) l.yielded_by _ c.in-Some.is c.next.ensures.steps in
+    all-yielded l.yielded _ _ _ _ l.invariant (ap₂ eqb (t.2 0) (t.3 0))

@@ -1,29 +1,28 @@
--- `filled` meets its contract: before turn k the cells below k have been looked at.
-use native.Mathlib.Numerals.{add-one}
+-- `filled` meets its contract: `clear` tells of the cells that have been looked at.
 use native.Mathlib.Omega.{arith}
-use mathlib.Core.Path.{◌≡◌, sym, ap}
-use mathlib.Core.Bool.{cond}
-use lib.ListN.{get_or}
-use Rattle.quorums.proofs.Sums.{all_none, all-suc}
+use mathlib.Core.Path.{◌≡◌, sym, ap, ◌∙◌}
+use mathlib.Core.Bool.{Bool, true, false, cond, not}
+use Prim.Native.Nat.{ℕ, ◌≤◌}
+use Rattle.std.specs.Int.{from_bool}
+use Rattle.quorums.proofs.Sums.{all_none}
 use Rattle.ledger.specs.Sums.{filled_row}
-use Rattle.ledger.proofs.sums.filled.Goals.{After-loop-k}
+use Rattle.ledger.proofs.Rows.{all-more}
 use Rattle.ledger.proofs.sums.filled.Goals as goal
 
--- in the end all have been
-seen : (c : After-loop-k) → cond c.loop-k.clear 0 1 ≡ filled_row (λ j. get_or c.args.row.now j 0)
-unfolding filled_row
-seen c =
-    let e : c.loop-k.k ≡ 16 = omega arith in
-    ap (λ t. cond t 0 1) (rw e at c.loop-k.invariant.1)
+-- 1 where a test fails, else 0
+mark : (n : ℕ) (t : Bool) → n ≡ from_bool (not t) → (n ≡ cond t 0 1) × (n ≤ 1)
+mark n true e = (e, omega (arith, e))
+mark n false e = (e, omega (arith, e))
 
-pub loop-k-init : goal.loop-k-init
-loop-k-init c = (omega arith, sym (all_none _))
+pub loop-cell-init : goal.loop-cell-init
+loop-cell-init c = sym (all_none _)
 
-pub loop-k-preserved : goal.loop-k-preserved
-loop-k-preserved c = (omega arith, rw (add-one, all-suc, ← c.loop-k.invariant.1) c.both-clear.ensures)
-
-pub returns-then-clear : goal.returns-then-clear
-returns-then-clear c = (rw c.if-clear.true at (seen (goal.at.returns-then-clear c).After-loop-k), omega arith)
+pub loop-cell-preserved : goal.loop-cell-preserved
+loop-cell-preserved c = all-more c.loop-cell.cell-index _ _ c.loop-cell.invariant
 
 pub returns : goal.returns
-returns c = (rw c.if-clear.false at (seen (goal.at.returns c).After-loop-k), omega arith)
+unfolding filled_row
+returns c =
+    let m = mark c.from.result c.loop-cell.clear c.from.ensures in
+    let e : c.loop-cell.cell-index ≡ 16 = omega arith in
+    (m.0 ∙ ap (λ t. cond t 0 1) (rw e at c.loop-cell.invariant), m.1)

@@ -1,12 +1,7 @@
--- `row_total` meets its contract: after j turns the total is that of the first j cells.
-use Prim.Native.Nat.{◌*◌, ◌-◌, ◌≤◌}
-use mathlib.Core.Path.{◌≡◌}
-use lib.ListN.{get_or}
+-- `row_total` meets its contract: the total is that of the cells that have been looked at.
+use Rattle.std.proofs.Common.{◌≡◌, ◌*◌, ◌≤◌, get_or}
 use Rattle.quorums.specs.Sum.{sum}
 use Rattle.ledger.proofs.sums.row_total.Given as goal
 
-abbrev pub invariant-loop-j : goal.invariant-loop-j
-invariant-loop-j l = (l.j ≤ 16) × (l.total ≡ sum l.j (λ k. get_or l.row k 0)) × (l.total ≤ l.j * 4294967295)
-
-abbrev pub decreases-loop-j : goal.decreases-loop-j
-decreases-loop-j l = 16 - l.j
+abbrev pub invariant-loop-amount : goal.invariant-loop-amount
+invariant-loop-amount l = (l.total ≡ sum l.amount-index (λ j. get_or l.row j 0)) × (l.total ≤ l.amount-index * 4294967295)

@@ -1,48 +1,11 @@
--- `check` meets its contract: 1 or 15 for the cluster, then the number of the scan.
-use mathlib.Core.Path.{◌≡◌, refl, sym, ap, ◌∙◌}
-use mathlib.Core.Bool.{true}
-use Rattle.config.specs.Cluster.{lawful_of, least_of}
-use Rattle.config.proofs.Clusters.{least-told, least-refused, why-fault}
-use Rattle.config.specs.declared.answer.Verdict.{Verdict}
-use Rattle.message.specs.Scans.{scan_of}
-use Rattle.reader.proofs.Answered.{verdict-unlawful, verdict-passed, verdict-found, found-refusal, received-small, given-small}
-use Rattle.reader.proofs.Scanned.{number_is}
-use Rattle.reader.proofs.read.check.Goals.{After-finish-end, In-Value}
+-- `check` meets its contract.
+use Rattle.reader.proofs.Outcomes.{passed-on}
+use Rattle.reader.proofs.Answered.{check-refused, check-passed}
 use Rattle.reader.proofs.read.check.Goals as goal
 
-least : (c : In-Value) → (lawful_of c.args.config ≡ true) × (c.in-Value.least ≡ least_of c.args.config)
-least c = least-told _ _ (sym c.least.ensures ∙ c.in-Value.is)
-
-least-at-After-finish-end : (c : After-finish-end) → (lawful_of c.args.config ≡ true) × (c.in-Value.least ≡ least_of c.args.config)
-least-at-After-finish-end c = least-told _ _ (sym c.least.ensures ∙ c.in-Value.is)
-
-found : (c : After-finish-end) →
-    let a = c.args in
-    c.finish-end.result.number ≡ (scan_of a.config a.msg.now).number
-found c =
-    let scan = c.scan-note.ensures in
-    number_is _ _ scan.0 (least-at-After-finish-end c).0 scan.1 scan.2 c.finish-end.ensures
-
-pub returns-in_default : goal.returns-in_default
-returns-in_default c =
-    let out = (least-refused _ _ (sym c.least.ensures ∙ c.in_default.is)).0 in
-    ap Verdict.Refused (c.refusal.ensures ∙ why-fault _ out) ∙ verdict-unlawful _ _ _ out refl
-
-pub scan-note-requires : goal.scan-note-requires
-scan-note-requires c = ((least (goal.at.scan-note-requires c).In-Value).0, refl, refl)
-
-pub finish-end-requires : goal.finish-end-requires
-finish-end-requires c =
-    let scan = c.scan-note.ensures in
-    ((least (goal.at.finish-end-requires c).In-Value).0, (least (goal.at.finish-end-requires c).In-Value).1, received-small _ _ scan.1, given-small _ _ scan.2)
-
-pub refusal-requires-then-end-ne0 : goal.refusal-requires-then-end-ne0
-refusal-requires-then-end-ne0 c = found-refusal _ _ _ (found (goal.at.refusal-requires-then-end-ne0 c).After-finish-end) c.if-end-ne0.true
-
-pub returns-then-end-ne0 : goal.returns-then-end-ne0
-returns-then-end-ne0 c =
-    verdict-found _ _ _ (least (goal.at.returns-then-end-ne0 c).In-Value).0 (found (goal.at.returns-then-end-ne0 c).After-finish-end) _ c.if-end-ne0.true c.refusal-then-end-ne0.ensures
+pub returns-in_err-read_message : goal.returns-in_err-read_message
+returns-in_err-read_message c =
+    passed-on c.from_residual.ensures (check-refused _ _ _ c.in_err-read_message.ensures.ends)
 
 pub returns : goal.returns
-returns c =
-    verdict-passed _ _ _ (least (goal.at.returns c).In-Value).0 (found (goal.at.returns c).After-finish-end) c.if-end-ne0.false
+returns c = check-passed _ _ _ c.in_ok-read_message.ensures.ends

@@ -1,20 +1,12 @@
 -- `fields` meets its contract: it hands on all but the value.
-use mathlib.Core.Path.{ap}
-use Rattle.message.specs.declared.answer.Fields.{Fields}
-use Rattle.message.specs.declared.answer.Received.{Received}
-use Rattle.message.specs.Answers.{fields_answer}
+use Rattle.std.proofs.Common.{sym}
+use Rattle.reader.proofs.Outcomes.{passed-on}
+use Rattle.reader.proofs.Answered.{fields-refused, fields-passed}
 use Rattle.reader.proofs.read.fields.Goals as goal
 
--- what is made of it
-abbrev made : Received → Fields
-made x =
-    record {
-      verdict = x.verdict;
-      envelope = x.envelope;
-      tag = record { stamp = x.replica.register.stamp; desk = x.replica.register.desk };
-      ledger = x.replica.ledger;
-    }
+pub returns-in_err-envelope : goal.returns-in_err-envelope
+returns-in_err-envelope c =
+    passed-on c.from_residual.ensures (fields-refused _ _ _ (sym c.in_err-envelope.ensures))
 
 pub returns : goal.returns
-unfolding fields_answer
-returns c = ap made c.receive-read.ensures
+returns c = rw c.tag.ensures (fields-passed _ _ _ (sym c.in_ok-envelope.ensures))

@@ -1,13 +1,12 @@
--- `receive` meets its contract: by the verdict, and where the message passed what was taken of it.
-use mathlib.Core.Path.{◌∙◌}
-use Rattle.reader.proofs.Answered.{received-refused, received-passed}
+-- `receive` meets its contract: the refusal, or what was taken beside the ledger.
+use Rattle.std.proofs.Common.{sym}
+use Rattle.reader.proofs.Outcomes.{passed-on}
+use Rattle.reader.proofs.Answered.{message-refused, message-passed}
 use Rattle.reader.proofs.read.receive.Goals as goal
 
-pub returns-in-Accepted : goal.returns-in-Accepted
-returns-in-Accepted c =
-    let taken = c.receive_lent-taken.ensures in
-    received-passed _ _ _ taken.0 taken.1 taken.2 c.in-Accepted.is
+pub returns-in_err-taken : goal.returns-in_err-taken
+returns-in_err-taken c =
+    passed-on c.from_residual.ensures (message-refused _ _ _ (sym c.in_err-taken.ensures.0))
 
-pub returns-in-Refused : goal.returns-in-Refused
-returns-in-Refused c =
-    c.refused.ensures ∙ received-refused _ _ _ c.receive_lent-taken.ensures.0 _ c.in-Refused.is
+pub returns : goal.returns
+returns c = message-passed _ _ _ _ (sym c.in_ok-taken.ensures.0) c.in_ok-taken.ensures.1

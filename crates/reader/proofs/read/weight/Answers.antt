@@ -1,47 +1,30 @@
--- `weight` meets its contract: the verdict, the server, and then the weight from the sums.
-use mathlib.Core.Path.{◌≡◌, sym, ap, ◌∙◌}
-use mathlib.Core.Bool.{true}
-use Rattle.config.specs.Cluster.{lawful_of, server_of}
-use Rattle.config.specs.declared.answer.Signed.{Signed}
+-- `weight` meets its contract: the check, the server, and then the weight from the sums.
+use Rattle.std.proofs.Common.{◌≡◌, ap, ◌∙◌, Ok, true}
+use Rattle.config.specs.Cluster.{server_of}
 use Rattle.config.proofs.Clusters.{lawful-valid, valid-server}
 use Rattle.ledger.proofs.Answers.{read_back}
-use Rattle.message.specs.Answers.{check, check_answer}
 use Rattle.message.proofs.Rounds.{check-told}
-use Rattle.reader.specs.Weighings.{weight_in}
-use Rattle.message.proofs.Numbers.{accepted-check, verdict-refused}
-use Rattle.reader.proofs.Answered.{sheet-small, weight-answered, server-refused}
-use Rattle.reader.proofs.read.weight.Goals.{Else-config-server, In_default}
+use Rattle.reader.proofs.Outcomes.{passed-on}
+use Rattle.reader.proofs.Answered.{passes, weight-refused, weight-passed, server-refused}
+use Rattle.reader.proofs.read.weight.Goals.{Else-config-server}
 use Rattle.reader.proofs.read.weight.Goals as goal
 
--- where it passed, there is no fault, and the cluster is within bounds
-passed : (c : In_default) → let a = c.args in check a.config a.msg.now ≡ 0
-unfolding check_answer
-passed c = accepted-check _ (sym c.weigh_message.ensures.0 ∙ c.in_default.is)
+server : (c : Else-config-server) → server_of c.args.config.now c.args.server ≡ true
+server c =
+    valid-server _ _ (lawful-valid _ (check-told _ _ (passes _ _ _ c.in_ok-read_message.ensures.ends)).0) c.if-config-server.false
 
--- where it passed, there is no fault, and the cluster is within bounds
-passed-at-Else-config-server : (c : Else-config-server) → let a = c.args in check a.config a.msg.now ≡ 0
-unfolding check_answer
-passed-at-Else-config-server c = accepted-check _ (sym c.weigh_message.ensures.0 ∙ c.in_default.is)
-
-valid : (c : Else-config-server) → lawful_of c.args.config ≡ true
-valid c = (check-told _ _ (passed-at-Else-config-server c)).0
-
-server : (c : Else-config-server) → let a = c.args in server_of a.config a.server ≡ true
-server c = valid-server _ _ (lawful-valid _ (valid c)) c.if-config-server.false
-
-pub returns-in-Refused : goal.returns-in-Refused
-unfolding weight_in check_answer
-returns-in-Refused c = verdict-refused _ _ _ Signed.Refused (sym c.weigh_message.ensures.0 ∙ c.in-Refused.is)
+pub returns-in_err-read_message : goal.returns-in_err-read_message
+returns-in_err-read_message c =
+    passed-on c.from_residual.ensures (weight-refused _ _ _ c.in_err-read_message.ensures.ends _)
 
 pub returns-then-config-server : goal.returns-then-config-server
-returns-then-config-server c = server-refused _ _ _ (passed (goal.at.returns-then-config-server c).In_default) c.if-config-server.true
+returns-then-config-server c = server-refused _ _ _ c.in_ok-read_message.ensures.ends _ c.if-config-server.true
 
-pub weight_of-requires : goal.weight_of-requires
-weight_of-requires c =
-    let small = sheet-small _ _ (passed (goal.at.weight_of-requires c).In_default) c.weigh_message.ensures.1 in
-    (server (goal.at.weight_of-requires c).Else-config-server, small.0, small.1)
+pub weight-requires : goal.weight-requires
+weight-requires c = server (goal.at.weight-requires c).Else-config-server
 
 pub returns : goal.returns
 returns c =
-    ap Signed.Value (read_back c.weight_of.result c.weight_of.type_inv ∙ c.weight_of.ensures)
-    ∙ weight-answered _ _ (passed (goal.at.returns c).In_default) c.weigh_message.ensures.1 _ (server (goal.at.returns c).Else-config-server)
+    let found = c.in_ok-read_message.ensures in
+    ap Ok (read_back c.weight.result c.weight.type_inv ∙ c.weight.ensures)
+    ∙ weight-passed _ _ _ found.ends c.read_message.new.sums found.adds _ (server (goal.at.returns c).Else-config-server)

@@ -1,13 +1,12 @@
 -- `mark` meets its contract.
 use native.Mathlib.Omega.{arith}
-use mathlib.Core.Path.{sym}
+use mathlib.Core.Path.{◌≡◌, ◌∙◌}
 use Rattle.format.specs.Bytes.{stands}
-use Rattle.format.proofs.Marks.{stands-pos}
+use Rattle.format.proofs.Marks.{stands-le}
+use Rattle.writer.proofs.Outlines.{mark-test}
 use Rattle.writer.proofs.outline.mark.Goals as goal
 
-pub returns-then-x-eq0 : goal.returns-then-x-eq0
-unfolding stands
-returns-then-x-eq0 c = (rw c.if-x-eq0.true, omega arith)
-
 pub returns : goal.returns
-returns c = (sym (stands-pos _ (omega arith)), omega arith)
+returns c =
+    let e : c.from.result ≡ stands c.args.x = c.from.ensures ∙ mark-test c.args.x in
+    (e, omega (arith, e, stands-le c.args.x))

@@ -5,11 +5,11 @@ use mathlib.Core.Logic.{inl, inr}
 use Rattle.config.proofs.Refusals.{meaning-refusal, meaning-none}
 use Rattle.config.proofs.answer.Refusal.of.Goals as goal
 
-pub returns-then-number-lt1 : goal.returns-then-number-lt1
-returns-then-number-lt1 c = sym ((meaning-none c.args.number).1 (inl (omega arith)))
+pub returns-in-1-to-15 : goal.returns-in-1-to-15
+returns-in-1-to-15 c = sym (meaning-refusal c.args.number (omega arith) (omega arith))
 
-pub returns-then-number-gt-MOST_REFUSAL : goal.returns-then-number-gt-MOST_REFUSAL
-returns-then-number-gt-MOST_REFUSAL c = sym ((meaning-none c.args.number).1 (inr (omega arith)))
+pub returns-in_default : goal.returns-in_default
+returns-in_default c = sym ((meaning-none c.args.number).1 (inl (omega arith)))
 
-pub returns : goal.returns
-returns c = sym (meaning-refusal c.args.number (omega arith) (omega arith))
+pub returns-in_default-2 : goal.returns-in_default-2
+returns-in_default-2 c = sym ((meaning-none c.args.number).1 (inr (omega arith)))

@@ -1,8 +1,8 @@
--- `lawful` meets its contract: nothing is wrong with exactly the lawful ones.
+-- `lawful` meets its contract: the least weight is there exactly for the lawful ones.
+use Rattle.std.specs.Prelude.{is_ok}
 use mathlib.Core.Path.{ap, ◌∙◌}
-use lib.Dec.{eqb}
-use Rattle.config.proofs.Clusters.{fault-lawful}
+use Rattle.config.proofs.Clusters.{least-ok}
 use Rattle.config.proofs.cluster.Config.lawful.Goals as goal
 
 pub returns : goal.returns
-returns c = ap (λ x. eqb x 0) c.fault.ensures ∙ fault-lawful _
+returns c = c.is_ok.ensures.value ∙ ap is_ok c.least.ensures ∙ least-ok _

@@ -1,19 +1,20 @@
 -- `total` meets its contract: it is there exactly where the least weight is, and is the sum of 16 start weights.
-use mathlib.Core.Path.{sym, ap, ◌∙◌}
-use Rattle.config.specs.declared.answer.Number.{Number}
+use Rattle.std.specs.Prelude.{Ok, Err}
+use mathlib.Core.Path.{◌≡◌, sym, ap, ◌∙◌}
+use borrow.Author.Rules.{rules}
 use Rattle.config.specs.Cluster.{start_of}
 use Rattle.config.specs.Answers.{total_answer}
-use Rattle.config.proofs.Clusters.{total-sum, least-told, least-refused, judged-lawful, judged-fault}
+use Rattle.config.proofs.Clusters.{judged-ok, judged-err, least-told, total-sum}
 use Rattle.config.proofs.cluster.Config.total.Goals as goal
 
-pub returns-in-Value : goal.returns-in-Value
-unfolding total_answer start_of
-returns-in-Value c =
-    let t = least-told _ _ (sym c.least.ensures ∙ c.in-Value.is) in
-    ap Number.Value (c.sum_of.ensures.0 ∙ total-sum _ t.0) ∙ sym (judged-lawful _ _ Number.Refused t.0)
-
-pub returns-in-Refused : goal.returns-in-Refused
+pub returns-in_err-least : goal.returns-in_err-least
 unfolding total_answer
-returns-in-Refused c =
-    let t = least-refused _ _ (sym c.least.ensures ∙ c.in-Refused.is) in
-    ap Number.Refused t.1 ∙ sym (judged-fault _ _ Number.Refused t.0)
+returns-in_err-least c =
+    let e : c.from_residual.result ≡ Err c.in_err-least.field-0.0 = search rules in
+    e ∙ judged-err _ _ _ (sym c.least.ensures ∙ c.in_err-least.was)
+
+pub returns : goal.returns
+unfolding total_answer start_of
+returns c =
+    let is = sym c.least.ensures ∙ c.in_ok-least.was in
+    ap Ok (c.from.ensures ∙ c.sum_of.ensures.0 ∙ total-sum _ (least-told _ _ is).0) ∙ judged-ok _ _ _ is

@@ -1,7 +1,37 @@
--- `check_floor` meets its contract: the floor is a matter of the cells.
-use mathlib.Core.Path.{◌∙◌}
-use Rattle.ledger.proofs.Lines.{floor-cells}
+-- `check_floor` meets its contract.
+use Rattle.std.specs.Prelude.{Err}
+use mathlib.Core.Path.{◌≡◌, sym, ◌∙◌}
+use Rattle.std.proofs.lemmas.Result.{err_from_is_err_and}
+use Rattle.config.proofs.Clusters.{least-told, lawful-valid}
+use Rattle.ledger.specs.Checks.{above_floor, floor_answer}
+use Rattle.ledger.proofs.Judged.{least-judged}
+use Rattle.ledger.proofs.Weights.{sums-above}
+use Rattle.ledger.proofs.ledger.Ledger.check_floor.Goals.{After-above_floor}
 use Rattle.ledger.proofs.ledger.Ledger.check_floor.Goals as goal
 
+-- what the test tells
+floor : (c : After-above_floor) → above_floor c.args.config.now c.args.self.now ≡ c.above_floor.result
+floor c =
+    let e = (least-told _ _ (sym c.in_ok-least.ensures)).0 in
+    sym (simp (c.sums.ensures.0, c.sums.ensures.1) at c.above_floor.ensures ∙ sums-above _ c.args.self.now (lawful-valid _ e))
+
+pub returns-in_err-least : goal.returns-in_err-least
+unfolding floor_answer
+returns-in_err-least c =
+    let p = err_from_is_err_and c.from_residual.result c.from_residual.ensures.1 in
+    rw (p.1, p.2) (sym (least-judged _ _ _ Err (sym c.in_err-least.ensures)))
+
+pub above_floor-requires : goal.above_floor-requires
+above_floor-requires c = least-told _ _ (sym c.in_ok-least.ensures)
+
+pub returns-then-not-above_floor : goal.returns-then-not-above_floor
+unfolding floor_answer
+returns-then-not-above_floor c =
+    let e = (least-told _ _ (sym c.in_ok-least.ensures)).0 in
+    simp (lawful-valid _ e, e, floor (goal.at.returns-then-not-above_floor c).After-above_floor ∙ c.if-not-above_floor.true)
+
 pub returns : goal.returns
-returns c = let a = c.args in c.floor.ensures ∙ floor-cells a.config a.self
+unfolding floor_answer
+returns c =
+    let e = (least-told _ _ (sym c.in_ok-least.ensures)).0 in
+    simp (lawful-valid _ e, e, floor (goal.at.returns c).After-above_floor ∙ c.if-not-above_floor.false)

@@ -1,24 +1,21 @@
--- `equal` meets its contract: a ledger that lacks a transfer of the other isn't the same, and where neither does, rows that agree are equal.
-use mathlib.Core.Path.{◌≡◌, sym, ◌∙◌}
-use mathlib.Core.Bool.{false}
-use Rattle.ledger.specs.Joins.{lacks}
-use Rattle.ledger.proofs.Joins.{lacks-counts}
-use Rattle.ledger.proofs.ComparedLemmas.{joins-equal, lacks-equal, lacked-equal}
+-- `equal` meets its contract: two arrays are equal where they are at each index.
+use mathlib.Core.Path.{◌≡◌, refl, ◌∙◌}
+use mathlib.Core.Bool.{Bool, true, false, cond, ◌&&◌}
+use borrow.Author.Rules.{rules}
+use Rattle.ledger.specs.Joins.{same_count_at, same_cell_at, equal}
+use Rattle.ledger.proofs.Rows.{lists-same}
+use Rattle.quorums.specs.Sum.{all}
 use Rattle.ledger.proofs.ledger.Ledger.equal.Goals as goal
 
-pub returns-then-lacks : goal.returns-then-lacks
-returns-then-lacks c =
-    let a = c.args in
-    sym (lacks-equal _ _ (sym (lacks-counts a.self a.other) ∙ sym c.lacks.ensures ∙ c.if-lacks.true))
-
-pub returns-then-lacks-2 : goal.returns-then-lacks-2
-returns-then-lacks-2 c =
-    let a = c.args in
-    sym (lacked-equal _ _ (sym (lacks-counts a.other a.self) ∙ sym c.lacks-2.ensures ∙ c.if-lacks-2.true))
+both : (a b : Bool) → a && b ≡ cond a b false
+both true b = refl
+both false b = refl
 
 pub returns : goal.returns
+unfolding equal
 returns c =
-    let a = c.args in
-    let l : lacks a.self a.other ≡ false = sym (lacks-counts a.self a.other) ∙ sym c.lacks.ensures ∙ c.if-lacks.false in
-    let k : lacks a.other a.self ≡ false = sym (lacks-counts a.other a.self) ∙ sym c.lacks-2.ensures ∙ c.if-lacks-2.false in
-    c.joins.ensures ∙ joins-equal _ _ l k
+    let a = c.args.self in
+    let b = c.args.other in
+    c.eq.ensures
+    ∙ simp (lists-same 16 a.counts b.counts (search rules) (search rules), lists-same 256 a.cells b.cells (search rules) (search rules))
+    (both (all 16 (same_count_at a b)) (all 256 (same_cell_at a b)))

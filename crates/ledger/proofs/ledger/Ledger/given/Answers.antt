@@ -1,37 +1,29 @@
--- `given` meets its contract: what a server gave is its row.
+-- `given` meets its contract.
+use Rattle.std.specs.Prelude.{Err}
 use native.Mathlib.Omega.{arith}
-use mathlib.Core.Path.{◌≡◌, sym, ◌∙◌}
-use mathlib.Core.Bool.{true}
-use borrow.Author.Rules.{rules}
-use Rattle.config.specs.Cluster.{server_of, lawful_of}
+use mathlib.Core.Path.{sym}
+use Rattle.quorums.proofs.Tables.{table_at}
+use Rattle.std.proofs.lemmas.Result.{err_from_is_err_and}
 use Rattle.config.proofs.Clusters.{server-small}
 use Rattle.ledger.specs.Weights.{given_answer}
-use Rattle.ledger.proofs.Lines.{given-line}
-use Rattle.ledger.proofs.ledger.Ledger.given.Goals.{Else-not-has, Else-not-lawful}
+use Rattle.ledger.specs.Ledgers.{given_of}
+use Rattle.ledger.proofs.Judged.{start-judged, start-told}
 use Rattle.ledger.proofs.ledger.Ledger.given.Goals as goal
 
--- the server is one of the cluster's
-one_of : (c : Else-not-has) → server_of c.args.config c.args.server ≡ true
-one_of c = sym c.has.ensures ∙ c.if-not-has.false
-
--- and its start weights are lawful
-house : (c : Else-not-lawful) → lawful_of c.args.config ≡ true
-house c = sym c.lawful.ensures ∙ c.if-not-lawful.false
-
-pub returns-then-not-has : goal.returns-then-not-has
+pub returns-in_err-start : goal.returns-in_err-start
 unfolding given_answer
-returns-then-not-has c = simp (sym c.has.ensures ∙ c.if-not-has.true)
+returns-in_err-start c =
+    let p = err_from_is_err_and c.from_residual.result c.from_residual.ensures.1 in
+    rw (p.1, p.2) (sym (start-judged _ _ _ Err c.args.server (sym c.in_err-start.ensures)))
 
-pub returns-then-not-lawful : goal.returns-then-not-lawful
-unfolding given_answer
-returns-then-not-lawful c = simp (one_of (goal.at.returns-then-not-lawful c).Else-not-has, sym c.lawful.ensures ∙ c.if-not-lawful.true)
+pub offset_bounds-sums-server : goal.offset_bounds-sums-server
+offset_bounds-sums-server c = omega (arith, server-small _ _ (start-told _ _ _ (sym c.in_ok-start.ensures)).0)
 
-pub overflow_mul-i : goal.overflow_mul-i
-overflow_mul-i c = omega (arith, server-small _ _ (one_of (goal.at.overflow_mul-i c).Else-not-has))
-
-pub line-requires : goal.line-requires
-line-requires c = (search rules, omega (arith, server-small _ _ (one_of (goal.at.line-requires c).Else-not-has)))
+pub bounds-sums-server : goal.bounds-sums-server
+bounds-sums-server c = server-small _ _ (start-told _ _ _ (sym c.in_ok-start.ensures)).0
 
 pub returns : goal.returns
 unfolding given_answer
-returns c = simp (one_of (goal.at.returns c).Else-not-has, house (goal.at.returns c).Else-not-lawful, c.line.ensures.0, given-line)
+returns c =
+    let e = start-told _ _ _ (sym c.in_ok-start.ensures) in
+    simp (e.0, e.1, c.sums.ensures.1, table_at 16 (given_of c.args.self) c.args.server (server-small _ _ e.0))

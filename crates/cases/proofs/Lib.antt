@@ -1,2 +1,0 @@
-pub mod Houses
-pub mod Signs

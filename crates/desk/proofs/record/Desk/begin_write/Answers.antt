@@ -1,8 +1,0 @@
--- `begin_write` meets its contract: nothing but the round and the operation changes.
-use mathlib.Core.Path.{ap, ◌∙◌}
-use Rattle.desk.specs.Begins.{answer_of}
-use Rattle.desk.proofs.Begins.{begin-whole}
-use Rattle.desk.proofs.record.Desk.begin_write.Goals as goal
-
-pub returns : goal.returns
-returns c = c.answered.ensures ∙ ap (answer_of c.args.self) c.writing-turned.ensures ∙ begin-whole _ _ _ _

@@ -1,0 +1,7 @@
+-- `balance` meets its contract: after i turns both sides are the sums over the servers below i that the map names.
+use Rattle.std.proofs.Common.{◌≤◌}
+use Rattle.ledger.proofs.Weights.{Counted}
+use Rattle.ledger.proofs.tally.Tally.balance.Given as goal
+
+abbrev pub invariant-loop-i : goal.invariant-loop-i
+invariant-loop-i l = (l.config.n ≤ 16) × Counted l.config l.self.received l.self.given l.map l.i l.total l.held l.given
