@@ -1,5 +1,5 @@
 -- What becomes of a message, by what was taken of it.
-use Rattle.std.specs.Prelude.{Result, Ok, Err}
+use Rattle.std.specs.Prelude.{Result, Ok, Err, IfOk}
 use mathlib.Core.Path.{◌≡◌, refl, sym, ap}
 use mathlib.Core.Bool.{Bool, true, false, cond}
 use mathlib.Core.List.{List}
@@ -21,7 +21,7 @@ use Rattle.server.specs.declared.record.Server.{Server}
 use Rattle.server.specs.declared.serve.Considered.{Considered}
 use Rattle.server.specs.declared.serve.Serving.{Serving}
 use Rattle.server.specs.Serves.{stray, knows_more}
-use Rattle.server.specs.Servings.{by_answer, serving_of, considered_of, IfOk}
+use Rattle.server.specs.Servings.{by_answer, serving_of, considered_of}
 
 -- whether a message brings a transfer
 abbrev pub brings : Bool → Result Serving Refusal
@@ -83,7 +83,7 @@ module _ (s : Server) (msg : List ℕ) (t : Taken) (l : Ledger) (d : taken_answe
         taken-known b = rw (considered-taken, p, le-ltb _ _ q, j, b) refl
 
 -- an answer that is a refusal tells nothing beside it
-pub refusal-told : (x y : Result Considered Refusal) (k : Refusal) (P : Type 0) → x ≡ Err k → y ≡ Err k → (x ≡ y) × IfOk x P
+pub refusal-told : (x y : Result Considered Refusal) (k : Refusal) (P : Considered → Type 0) → x ≡ Err k → y ≡ Err k → (x ≡ y) × IfOk x P
 refusal-told x y k P e d = rw (e, d) (refl, tt)
 
 -- by which the check proves `consider`

@@ -23,11 +23,6 @@ abbrev pub by_answer : {A B : Type 0} → Result A Refusal → (A → B) → (Re
 by_answer (Ok x) g f = g x
 by_answer (Err k) g f = f k
 
--- what is told where an answer is no refusal
-abbrev pub IfOk : {A : Type 0} → Result A Refusal → Type 0 → Type 0
-IfOk (Ok x) P = P
-IfOk (Err k) P = Unit
-
 -- refused by the message checks, 7, or 6 where the message knows more of the server's own transfers than it made, or rows or values do not agree; else
 -- whether it brings a transfer that the server lacks
 unfoldable pub serving_of : Server → Verdict → Envelope → Replica → Result Serving Refusal

@@ -1,9 +1,9 @@
 // A server takes a request or a share (paper 01, "Server": Serve).
-ghost use Rattle.std.specs.Prelude.{◌≡◌, ◌<◌};
+ghost use Rattle.std.specs.Prelude.{◌≡◌, ◌<◌, IfOk};
 ghost use Rattle.ledger.specs.Ledgers.{Shaped};
 ghost use Rattle.message.specs.Answers.{receive_of};
 ghost use Rattle.server.specs.Serves.{stray as stray_of, reply_by, serve_of};
-ghost use Rattle.server.specs.Servings.{considered_of, answer_in, known_in, more_in, light_of, IfOk};
+ghost use Rattle.server.specs.Servings.{considered_of, answer_in, known_in, more_in, light_of};
 
 use super::record::Server;
 use config::Refusal;
@@ -79,7 +79,7 @@ impl Server {
     #[tactic(auto, using(crate::proofs::Considered::considering))]
     fn consider(&self, msg: &[u8], told: &mut Replica) -> Result<Considered, Refusal>
         requires { self.now.number < 16 }
-        ensures { (result ≡ considered_of self.now msg.now) × IfOk result ((told.new ≡ (receive_of self.now.config msg.now).replica) × Shaped self.now.replica.ledger) }
+        ensures { (result ≡ considered_of self.now msg.now) × IfOk result (λ c. (told.new ≡ (receive_of self.now.config msg.now).replica) × Shaped self.now.replica.ledger) }
     {
         let taken = receive_into(&self.config, msg, &mut told.ledger)?;
         told.register = taken.register;
