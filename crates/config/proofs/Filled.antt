@@ -1,7 +1,7 @@
 -- A list of start weights that is kept entry by entry: after i turns the first i are in their places, none of them above 16,000, and there are zeros after them.
-use Prim.Native.Nat.{ℕ, ◌+◌, ◌≤◌, ◌<◌}
+use Prim.Native.Nat.{ℕ, ◌+◌, ◌*◌, ◌≤◌, ◌<◌, min}
 use native.Mathlib.Omega.{arith}
-use mathlib.Core.Path.{◌≡◌, refl, sym, ◌∙◌}
+use mathlib.Core.Path.{◌≡◌, refl, sym, ap, ◌∙◌}
 use mathlib.Core.Logic.{⊎_elim}
 use mathlib.Core.Bool.{true, false}
 use mathlib.Core.List.{List}
@@ -9,10 +9,12 @@ use borrow.Author.Tests.{le-leb, lt-leb, eq-eqb, ne_eqb}
 use lib.Dec.{leb}
 use lib.ListN.{length, get_or, set, replicate, length-replicate, length-set, get_or-replicate, get_or-eq_default}
 use lib.Seq.{get_or-set_other}
-use Rattle.quorums.proofs.Sums.{each_all, all-fails}
+use Rattle.quorums.specs.Sum.{sum, all}
+use Rattle.quorums.proofs.Sums.{sum-none, sum-next, all_none, all-turn, each_all, all-fails}
 use Rattle.quorums.proofs.Tables.{is-table, filled_next}
 use Rattle.quorums.proofs.Tests.{le-or-lt}
 use Rattle.config.specs.Cluster.{keeps, kept_of}
+use Rattle.config.proofs.Lowest.{leb-most, leb-min-last}
 
 pub record Filled (n : ℕ) (starts kept : List ℕ) (i : ℕ) : Type 0 where
   pub long : length starts ≡ n
@@ -79,4 +81,26 @@ filled-turn {n} {starts} {kept} {i} x l s =
       done = filled_next (λ k. get_or starts k 0) kept i (get_or starts i 0) (omega (arith, x.size, x.few)) x.done refl;
       small = λ k h. ⊎_elim (λ (b : i ≤ k). let same : i ≡ k = omega arith in rw (sym same) s) (λ (b : k < i). x.small k b) (le-or-lt i k);
       rest = λ k h b. get_or-set_other kept i k (get_or starts i 0) 0 (λ c. omega arith) ∙ x.rest k (omega arith) b;
+    }
+
+-- ---- and added up on the way: what the first i come to, and the bounds that all of them reach
+
+pub record Gathered (n : ℕ) (starts kept : List ℕ) (total lowest i : ℕ) : Type 0 where
+  pub filled : Filled n starts kept i
+  pub total-is : total ≡ sum i (λ k. get_or starts k 0)
+  pub total-small : total ≤ i * 16000
+  pub lowest-is : (b : ℕ) → b ≤ 65535 → leb b lowest ≡ all i (λ k. leb b (get_or starts k 0))
+
+pub gathered_none : (n : ℕ) (starts : List ℕ) → length starts ≡ n → n ≤ 16 → Gathered n starts (replicate 16 0) 0 65535 0
+gathered_none n starts e l =
+    record { filled = filled_none n starts e l; total-is = sym (sum-none _); total-small = omega arith; lowest-is = λ b h. leb-most b h ∙ sym (all_none _) }
+
+pub gathered-turn : {n : ℕ} {starts kept : List ℕ} {total lowest i more low : ℕ} → Gathered n starts kept total lowest i → i < n → get_or starts i 0 ≤ 16000
+    → more ≡ get_or starts i 0 → low ≡ min lowest (get_or starts i 0) → Gathered n starts (set kept i (get_or starts i 0)) (total + more) low (i + 1)
+gathered-turn {n} {starts} {kept} {total} {lowest} {i} {more} {low} x l s e is =
+    record {
+      filled = filled-turn x.filled l s;
+      total-is = sym (sum-next i _ ∙ ap (λ t. t + get_or starts i 0) (sym x.total-is) ∙ ap (λ m. total + m) (sym e));
+      total-small = omega (arith, x.total-small, e);
+      lowest-is = λ b h. ap (leb b) is ∙ all-turn i _ (leb b lowest) _ (x.lowest-is b h) (leb-min-last b lowest (get_or starts i 0));
     }

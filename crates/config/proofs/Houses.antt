@@ -1,27 +1,31 @@
 -- What a call is given and what is kept of it: the same start weights, the same W, and the same number for what is wrong; and what a level house comes to.
-use Rattle.std.specs.Prelude.{Ok, Err, Result}
+use Rattle.std.specs.Prelude.{Ok, Err, Result, ok_or}
 use Rattle.config.specs.Refusals.{refusal}
 use Prim.Native.Nat.{ℕ, ◌+◌, ◌-◌, ◌*◌, ◌^◌, ◌≤◌, ◌<◌}
 use native.Mathlib.Omega.{arith}
-use mathlib.Core.Path.{◌≡◌, refl, sym, ◌∙◌}
+use mathlib.Core.Path.{◌≡◌, refl, sym, ap, ◌∙◌}
 use mathlib.Core.Logic.{⊎_elim}
 use mathlib.Core.Bool.{Bool, true, false, cond}
+use mathlib.Core.List.{List}
 use borrow.Author.Tests.{le-leb, leb-true, lt-ltb, le-ltb, ltb-true, eq-eqb, eqb-true}
 use lib.Dec.{eqb, leb, ltb}
 use lib.IntN.{pos}
 use lib.ListN.{length, get_or, replicate, length-replicate, get_or-replicate, get_or-eq_default}
 use Rattle.quorums.specs.Sum.{sum}
 use Rattle.quorums.specs.Accounts.{above}
-use Rattle.quorums.proofs.Sums.{sum-const, sum-rest, sum_same, all-each, each_all}
+use Rattle.quorums.proofs.Sums.{sum-const, sum-rest, sum_same, all-each, each_all, all_same}
 use Rattle.quorums.proofs.Tables.{table_at, table-length}
-use Rattle.quorums.proofs.Tests.{le-or-lt, one-test, both}
+use Rattle.quorums.proofs.Tests.{le-or-lt, one-test, test-false, both}
 use Rattle.quorums.proofs.Differences.{pos-difference}
 use Rattle.quorums.proofs.Weights.{above-is}
-use Rattle.config.specs.Answers.{judged, config_answer}
+use Rattle.config.specs.Answers.{judged, least_answer, config_answer}
 use Rattle.config.specs.declared.answer.Refusal.{Refusal}
 use Rattle.config.specs.declared.list.Lawful.{Lawful}
-use Rattle.config.specs.Cluster.{House, Typed, no_config, level, in_bounds, valid_of, start_of, total_of, above_of, ends_of, starts_above, lawful_of, least_of, cluster_fault, lawful_list, house_fault, keeps, kept_of, config_of}
-use Rattle.config.proofs.Clusters.{valid-bounds, lawful-told, told-lawful, start-above}
+use Rattle.config.specs.declared.cluster.First.{First}
+use Rattle.config.specs.Firsts.{Firsts}
+use Rattle.config.specs.Cluster.{House, Typed, no_config, level, in_bounds, valid_of, start_of, total_of, above_of, ends_of, starts_above, lawful_of, least_of, least_by, cluster_fault, lawful_list, house_fault, keeps, kept_of, config_of}
+use Rattle.config.proofs.Clusters.{valid-bounds, lawful-told, told-lawful, start-above, total-all, least-found, least-of-valid}
+use Rattle.config.proofs.Filled.{Gathered, filled_keeps}
 
 -- entry i of the list, and W
 abbrev entry : House → ℕ → ℕ
@@ -161,6 +165,43 @@ given-answer h = rw (sym (given-fault h)) (by_tests (valid_of (config_of h)) (la
     by_tests true true x = refl
     by_tests true false x = refl
     by_tests false l x = refl
+
+-- ---- the answer to what is given, as it is found entry by entry
+
+-- n or f is out of bounds
+pub bounds-refused : (h : House) → in_bounds h.n h.f ≡ false → Err (refusal 1) ≡ config_answer h
+unfolding config_answer house_fault
+bounds-refused h e = rw e refl
+
+-- the list is not lawful: it has another length, or an entry that is above what all may weigh together
+list-refused : (h : House) → in_bounds h.n h.f ≡ true → lawful_list h ≡ false → Err (refusal 15) ≡ config_answer h
+unfolding config_answer house_fault
+list-refused h v e = rw (v, e) refl
+
+pub length-refused : (h : House) → in_bounds h.n h.f ≡ true → (length h.starts ≡ h.n → ⊥) → Err (refusal 15) ≡ config_answer h
+length-refused h v ne = list-refused h v (test-false (lawful_list h) (λ l. ne (list-told h l).long))
+
+pub entry-refused : (h : House) → in_bounds h.n h.f ≡ true → (i : ℕ) → i < h.n → 16000 < get_or h.starts i 0 → Err (refusal 15) ≡ config_answer h
+entry-refused h v i l big =
+    list-refused h v (test-false (lawful_list h) (λ e. omega (arith, big, entry-small h (list-told h e).small i l)))
+
+-- what the entries come to gives the least weight of what is kept, or what is wrong with it
+pub gathered-least : (h : House) (kept : List ℕ) (total lowest : ℕ) → in_bounds h.n h.f ≡ true → Gathered h.n h.starts kept total lowest h.n
+    → ok_or (least_by h.n h.f total lowest) (refusal 15) ≡ least_answer (config_of h)
+unfolding valid_of start_of
+gathered-least h kept total lowest v g =
+    let k = filled_keeps h.n h.starts kept g.filled in
+    let few = (kept-told h k).few in
+    let first : First = record { total = total; lowest = lowest } in
+    let same : sum h.n (λ i. get_or (config_of h).starts i 0) ≡ weight h = sum_same h.n _ (entry h) (λ i l. start-kept h k i (omega (arith, few))) in
+    let firsts : Firsts (config_of h).starts h.n first =
+    record {
+      total-is = g.total-is ∙ sym same;
+      total-small = omega (arith, g.total-small, few);
+      lowest-is = λ b l. g.lowest-is b l ∙ sym (all_same h.n _ _ (λ i m. ap (leb b) (start-kept h k i (omega (arith, few)))));
+    } in
+    ap (λ o. ok_or o (refusal 15)) (least-found (config_of h) v first firsts (total-all (config_of h) v (ends-kept h k) ∙ total_kept h k ∙ sym g.total-is))
+    ∙ least-of-valid (config_of h) v
 
 -- ---- what a call can have
 

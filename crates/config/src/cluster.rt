@@ -139,7 +139,7 @@ impl Config {
 }
 
 // Whether n and f are within bounds.
-fn in_bounds(n: u64, f: u64) -> bool
+pub(crate) fn in_bounds(n: u64, f: u64) -> bool
     ensures { result ≡ in_bounds n f }
 {
     1 <= n && n <= MOST_SERVERS && f < n && 2 * f < n
@@ -156,7 +156,7 @@ fn at_least(weight: i64, least: u64) -> bool
 // The least weight above the floor, by the sum and the least of n start weights, after which there is nothing: none where the sum passes 16,000 or the least
 // isn't above the floor.
 #[tactic(auto, unfolding(crate::specs::Cluster::least_by))]
-fn least_by(n: u64, f: u64, total: u32, lowest: u16) -> Option<u64>
+pub(crate) fn least_by(n: u64, f: u64, total: u32, lowest: u16) -> Option<u64>
     requires { in_bounds n f ≡ true }
     ensures { result ≡ least_by n f total lowest }
 {

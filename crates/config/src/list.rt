@@ -4,7 +4,7 @@ ghost use Rattle.config.specs.Cluster.{house_of, kept_of, config_of, no_config};
 ghost use Rattle.config.specs.Answers.{config_answer};
 
 use super::answer::Refusal;
-use super::cluster::{Config, MOST_SERVERS, MOST_WEIGHT};
+use super::cluster::{Config, MOST_SERVERS, MOST_WEIGHT, in_bounds, least_by};
 
 // A lawful cluster, and its least weight above the floor.
 #[derive(Clone, Copy)]
@@ -14,12 +14,31 @@ pub struct Lawful {
 }
 
 impl Config {
-    // The cluster of n, f and a list, or what is wrong with them: 1 for n and f, 15 for the list.
+    // The cluster of n, f and a list, or what is wrong with them: 1 for n and f, 15 for the list. The list is gone through once: an entry is looked at, kept and
+    // added to those before it, so that nothing that was kept is read again for the test.
     pub fn of(n: u64, f: u64, starts: &[u64]) -> Result<Lawful, Refusal>
         ensures { result ≡ config_answer (house_of n f starts.now) }
     {
-        let config = Config::given(n, f, starts);
-        let least = config.least()?;
+        if !in_bounds(n, f) {
+            return Err(Refusal::BadHouse);
+        }
+        if starts.len() as u64 != n {
+            return Err(Refusal::BadStart);
+        }
+        let mut kept: [u16; 16] = [0; 16];
+        let mut total: u32 = 0;
+        let mut lowest = u16::MAX;
+        for (i, start) in starts.iter().enumerate() {
+            if MOST_WEIGHT < *start {
+                return Err(Refusal::BadStart);
+            }
+            let start = *start as u16;
+            kept[i] = start;
+            total += u32::from(start);
+            lowest = lowest.min(start);
+        }
+        let least = least_by(n, f, total, lowest).ok_or(Refusal::BadStart)?;
+        let config = Config { n, f, starts: kept };
         Ok(Lawful { config, least })
     }
 
