@@ -36,7 +36,7 @@ pub gap-fits : (a b : ℕ) → a < 2 ^ 62 → b < 2 ^ 62 → SFits w64 (to_z w64
 gap-fits a b h k = subst (SFits w64) (sym (gap_is a b h k)) (record { sfits = difference-mag a b (2 ^ 63) (omega arith) (omega arith) })
 
 -- the map of all names every server
-all_named : (i : ℕ) → i < 16 → named 65535 i ≡ true
+pub all_named : (i : ℕ) → i < 16 → named 65535 i ≡ true
 unfolding all named
 all_named = all-each 16 (named 65535) refl
 

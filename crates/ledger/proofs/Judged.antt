@@ -3,7 +3,7 @@ use Rattle.std.specs.Prelude.{Ok, Err}
 use Prim.Native.Nat.{ℕ}
 use mathlib.Core.Path.{◌≡◌, refl, sym, ap, ◌∙◌}
 use mathlib.Core.Bool.{Bool, true, false}
-use Rattle.config.specs.Cluster.{valid_of, lawful_of, server_of}
+use Rattle.config.specs.Cluster.{valid_of, lawful_of, server_of, start_of}
 use Rattle.config.specs.Answers.{judged, start_answer, least_answer}
 use Rattle.config.specs.Refusals.{refusal}
 use Rattle.config.specs.declared.answer.Refusal.{Refusal}
@@ -33,7 +33,7 @@ module _ {A : Type 0} (c : Config) (r : Refusal) (x : A) (refused : Refusal → 
       by_tests true false p q = rw (p, q) (ap refused (cc (rw (p, q) at e)))
       by_tests false l p q = rw p (ap refused (cc (rw p at e)))
 
--- a server that has a start weight
+-- a server that has a start weight, and that weight
 pub start-told : (c : Config) (i y : ℕ) → start_answer c i ≡ Ok y → (server_of c i ≡ true) × (lawful_of c ≡ true)
 unfolding start_answer
 start-told c i y e = by_tests (server_of c i) (lawful_of c) refl refl
@@ -42,3 +42,7 @@ start-told c i y e = by_tests (server_of c i) (lawful_of c) refl refl
     by_tests true true p q = (p, q)
     by_tests true false p q = absurd (value-not-refused _ _ (sym (rw (p, q) at e)))
     by_tests false l p q = absurd (value-not-refused _ _ (sym (rw p at e)))
+
+pub start-is : (c : Config) (i y : ℕ) → start_answer c i ≡ Ok y → y ≡ start_of c i
+unfolding start_answer
+start-is c i y e = let t = start-told c i y e in cc (rw (t.0, t.1) at e)

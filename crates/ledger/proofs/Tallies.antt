@@ -1,18 +1,22 @@
--- A list of 16 sums to which a number is added at each index in turn.
+-- A list of 16 sums to which a number is added at each index in turn, or at those that a map names.
 use Prim.Native.Nat.{ℕ, ◌+◌, ◌-◌, ◌*◌, ◌≤◌, ◌<◌}
 use native.Mathlib.Decide.{ℕ_discrete}
 use native.Mathlib.Numerals.{add-one}
 use native.Mathlib.Omega.{arith}
 use mathlib.Core.Path.{◌≡◌, refl, sym, ap, ◌∙◌}
 use mathlib.Core.Logic.{⊎_elim}
+use mathlib.Core.Bool.{false}
 use mathlib.Core.List.{List}
 use lib.ListN.{length, get_or, set, replicate, length-set, get_or-replicate, get_or-eq_default}
 use lib.Seq.{get_or-set_same, get_or-set_other}
+use Rattle.std.proofs.lemmas.Bool.{true≢false}
 use Rattle.quorums.specs.Sum.{sum}
 use Rattle.quorums.proofs.Tests.{le-or-lt}
 use Rattle.quorums.proofs.Sums.{below_suc, sum-extend, sum-le, sum-const}
 use Rattle.quorums.specs.Tables.{table}
-use Rattle.quorums.proofs.Tables.{is-table, table_same}
+use Rattle.ledger.specs.Maps.{named}
+use Rattle.ledger.specs.Sums.{Sums, Covers}
+use Rattle.quorums.proofs.Tables.{is-table, table_same, table-length, table_at}
 
 -- ys is xs with f k added at each k below j
 pub record Tallied (f : ℕ → ℕ) (xs ys : List ℕ) (j : ℕ) : Type 0 where
@@ -72,3 +76,38 @@ set-within l i v m most h r w = by_place (ℕ_discrete m i)
 -- n cells come to at most n times the largest
 pub sum-most : (n : ℕ) (f : ℕ → ℕ) → ((k : ℕ) → f k ≤ 4294967295) → sum n f ≤ n * 4294967295
 sum-most n f h = omega (arith, sum-le n f (λ k. 4294967295) (λ k l. h k), sum-const n 4294967295)
+
+-- so 16 sums that are each small are small together
+pub sums-small : (f : ℕ → ℕ) → ((k : ℕ) → f k ≤ 68719476720) → Sums 68719476720 (table 16 f)
+sums-small f h =
+    record {
+      size = table-length 16 f;
+      small = bounded (table 16 f) 68719476720 (table-length 16 f) (λ k g. omega (arith, table_at 16 f k g, h k));
+    }
+
+-- ---- a list that has f at each of the servers that a map names
+
+pub covers-table : (n m : ℕ) (f : ℕ → ℕ) (l : List ℕ) → n ≤ 16 → l ≡ table 16 f → Covers n m f l
+covers-table n m f l h e = record { at = λ k b t. ap (λ xs. get_or xs k 0) e ∙ table_at 16 f k (omega arith) }
+
+module _ {i m : ℕ} {f : ℕ → ℕ} {l : List ℕ} (s : Covers i m f l) where
+  -- a server that is named is put in, and one that is not named is passed by
+  pub covers-put : (v : ℕ) → i < length l → v ≡ f i → Covers (i + 1) m f (set l i v)
+  covers-put v h e =
+      record {
+        at =
+            λ k b t.
+            ⊎_elim (λ (d : k ≡ i). rw d (get_or-set_same l i v 0 h ∙ e))
+            (λ (d : k < i). get_or-set_other l i k v 0 (λ c. omega arith) ∙ s.at k d t)
+            (below_suc (rw add-one at b));
+      }
+
+  pub covers-passed : named m i ≡ false → Covers (i + 1) m f l
+  covers-passed p =
+      record {
+        at = λ k b t. ⊎_elim (λ (d : k ≡ i). absurd (true≢false (sym (rw d at t) ∙ p))) (λ (d : k < i). s.at k d t) (below_suc (rw add-one at b));
+      }
+
+-- sums stay small where a small one is put in
+pub sums-put : {most : ℕ} {l : List ℕ} → Sums most l → (i v : ℕ) → i < 16 → v ≤ most → Sums most (set l i v)
+sums-put {most} {l} s i v h w = record { size = simp length-set s.size; small = λ k. set-within l i v k most (omega (arith, s.size)) s.small w }

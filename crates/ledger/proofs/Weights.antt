@@ -3,7 +3,7 @@ use Prim.Native.Nat.{ℕ, ◌+◌, ◌*◌, ◌≤◌, ◌<◌}
 use native.Mathlib.Omega.{arith}
 use mathlib.Core.Path.{◌≡◌, refl, sym, ap, ap₂, ◌∙◌}
 use mathlib.Core.Bool.{Bool, true, false, cond}
-use mathlib.Core.List.{List}
+use mathlib.Core.List.{List, []}
 use borrow.Author.Tests.{lt-ltb}
 use lib.Dec.{leb}
 use lib.ListN.{get_or}
@@ -16,14 +16,16 @@ use Rattle.config.specs.Cluster.{valid_of, server_of, start_of, total_of, above_
 use Rattle.config.specs.declared.cluster.Config.{Config}
 use Rattle.config.proofs.Clusters.{valid-server, server-small, valid-bounds, above-least}
 use Rattle.ledger.specs.declared.ledger.Ledger.{Ledger}
-use Rattle.ledger.specs.Ledgers.{received_of, given_of, accounts_of}
+use Rattle.ledger.specs.Ledgers.{ledger_of, cell_of, received_of, given_of, accounts_of, Typed}
 use Rattle.ledger.specs.Maps.{named}
-use Rattle.ledger.specs.Weights.{weight_of, all_of, margin_of}
-use Rattle.ledger.specs.Checks.{bounded, above_floor}
+use Rattle.ledger.specs.Weights.{weight_of, all_of, margin_of, quorum_answer}
+use Rattle.ledger.specs.Checks.{bounded, above_floor, floor_answer}
 use Rattle.quorums.specs.Tables.{table}
 use Rattle.quorums.proofs.Tables.{table_at}
-use Rattle.ledger.specs.Sums.{accounts_in, all_above, Sums, Weighs, received_from, given_below}
+use Rattle.ledger.specs.Sums.{accounts_in, all_above, Sums, Weighs, Covers, received_from, given_below}
+use Rattle.ledger.proofs.Tallies.{sum-most, sums-small}
 use Rattle.ledger.proofs.Faults.{from_all}
+use Rattle.ledger.proofs.Answers.{all_named}
 
 -- ---- as the program computes them
 
@@ -107,15 +109,19 @@ module _ {c : Config} {r g : List ℕ} {m i W h k start : ℕ} (s : Counted c r 
 
 -- ---- on a ledger
 
--- A margin depends on what each server received and gave.
+-- A margin depends on what each server that the map names received and gave.
+pub named-margin : (c : Config) (l : Ledger) (m : ℕ) (r g : List ℕ) → Covers c.n m (received_of l) r → Covers c.n m (given_of l) g
+    → margin c.n (accounts_in c r g) (named m) ≡ margin_of c l m
+unfolding margin_of total
+named-margin c l m r g takes gives =
+    margin-is c.n (accounts_in c r g) (named m)
+    ∙ ap₂ (λ x y. difference (2 * y) (2 * x + total c.n (accounts_of c l))) (sum_in-same c.n (named m) _ _ gives.at)
+    (sum_in-same c.n (named m) _ _ (λ i k t. ap (λ x. start_of c i + x) (takes.at i k t)))
+    ∙ sym (margin-is c.n (accounts_of c l) (named m))
+
 margin-by : (c : Config) (l : Ledger) (m : ℕ) (r g : List ℕ) → ((i : ℕ) → i < c.n → get_or r i 0 ≡ received_of l i)
     → ((i : ℕ) → i < c.n → get_or g i 0 ≡ given_of l i) → margin c.n (accounts_in c r g) (named m) ≡ margin_of c l m
-unfolding margin_of total
-margin-by c l m r g takes gives =
-    margin-is c.n (accounts_in c r g) (named m)
-    ∙ ap₂ (λ x y. difference (2 * y) (2 * x + total c.n (accounts_of c l))) (sum_in-same c.n (named m) _ _ (λ i k t. gives i k))
-    (sum_in-same c.n (named m) _ _ (λ i k t. ap (λ x. start_of c i + x) (takes i k)))
-    ∙ sym (margin-is c.n (accounts_of c l) (named m))
+margin-by c l m r g takes gives = named-margin c l m r g (record { at = λ i k t. takes i k }) (record { at = λ i k t. gives i k })
 
 -- The weight of a server is its weight on the ledger.
 pub sums-weight : (c : Config) (l : Ledger) (i : ℕ) → server_of c i ≡ true → weight (accounts_in c (table 16 (received_of l)) (table 16 (given_of l))) i ≡ weight_of c l i
@@ -137,17 +143,44 @@ sums-margin c l m v = margin-by c l m (table 16 (received_of l)) (table 16 (give
     at f i k = table_at 16 f i (omega (arith, (valid-bounds c v).most))
 
 -- The weight of all servers is that on the ledger.
+pub weighs-all : (c : Config) (l : Ledger) (r g : List ℕ) → Weighs c l r g → weight_in c.n (accounts_in c r g) (λ i. true) ≡ all_of c l
+unfolding all_of
+weighs-all c l r g w =
+    weight_in-is c.n _ (λ i. true)
+    ∙ ap₂ difference (sum_in-same c.n (λ i. true) _ _ (λ i k t. ap (λ x. start_of c i + x) (w.takes i k))) (sum_in-same c.n (λ i. true) _ _ (λ i k t. w.gives i k))
+    ∙ sym (weight_in-is c.n (accounts_of c l) (λ i. true))
+
 pub sums-all : (c : Config) (l : Ledger) → valid_of c ≡ true
     → weight_in c.n (accounts_in c (table 16 (received_of l)) (table 16 (given_of l))) (λ i. true) ≡ all_of c l
-unfolding all_of
-sums-all c l v =
-    weight_in-is c.n _ (λ i. true)
-    ∙ ap₂ difference (sum_in-same c.n (λ i. true) _ _ (λ i k t. ap (λ x. start_of c i + x) (at (received_of l) i k)))
-    (sum_in-same c.n (λ i. true) _ _ (λ i k t. at (given_of l) i k))
-    ∙ sym (weight_in-is c.n (accounts_of c l) (λ i. true))
+sums-all c l v = weighs-all c l _ _ (record { takes = at (received_of l); gives = at (given_of l) })
   where
     at : (f : ℕ → ℕ) (i : ℕ) → i < c.n → get_or (table 16 f) i 0 ≡ f i
     at f i k = table_at 16 f i (omega (arith, (valid-bounds c v).most))
+
+-- The sums of a ledger that a call can have are small.
+pub received-sums : (l : Ledger) → Typed l → Sums 68719476720 (table 16 (received_of l))
+unfolding received_of
+received-sums l t = sums-small (received_of l) (λ i. sum-most 16 (λ j. cell_of l j i) (λ j. t.cell-fits (j * 16 + i)))
+
+pub given-sums : (l : Ledger) → Typed l → Sums 68719476720 (table 16 (given_of l))
+unfolding given_of
+given-sums l t = sums-small (given_of l) (λ i. sum-most 16 (λ j. cell_of l i j) (λ j. t.cell-fits (i * 16 + j)))
+
+-- weights are about cells alone: a ledger with the same cells has the same accounts
+abbrev pub in_cells : List ℕ → Ledger
+in_cells cells = ledger_of [] cells
+
+pub given-cells : (l : Ledger) → given_of (in_cells l.cells) ≡ given_of l
+unfolding given_of
+given-cells l = refl
+
+pub floor-cells : (c : Config) (l : Ledger) → floor_answer c (in_cells l.cells) ≡ floor_answer c l
+unfolding floor_answer above_floor weight_of received_of given_of
+floor-cells c l = refl
+
+pub quorum-cells : (c : Config) (l : Ledger) (m : ℕ) → quorum_answer c (in_cells l.cells) m ≡ quorum_answer c l m
+unfolding quorum_answer margin_of received_of given_of
+quorum-cells c l m = refl
 
 -- ---- by the rows below n
 
@@ -170,3 +203,11 @@ weighs-above c l r g w = all_same c.n _ _ (λ i h. ap₂ (λ x y. above_of c (di
 -- and the margin of a map is its margin on the ledger
 pub weighs-margin : (c : Config) (l : Ledger) (m : ℕ) (r g : List ℕ) → Weighs c l r g → margin c.n (accounts_in c r g) (named m) ≡ margin_of c l m
 weighs-margin c l m r g w = margin-by c l m r g w.takes w.gives
+
+-- ---- by the servers that a map names
+
+-- the map of all names every server
+pub covers-weighs : (c : Config) (l : Ledger) (r g : List ℕ) → valid_of c ≡ true → Covers c.n 65535 (received_of l) r → Covers c.n 65535 (given_of l) g → Weighs c l r g
+covers-weighs c l r g v takes gives =
+    let most = (valid-bounds c v).most in
+    record { takes = λ i h. takes.at i h (all_named i (omega arith)); gives = λ i h. gives.at i h (all_named i (omega arith)) }

@@ -1,5 +1,5 @@
 -- What each server received and gave, as two lists of 16 sums: weights need no more of a ledger.
-use Rattle.std.specs.Prelude.{ℕ, ◌+◌, ◌*◌, ◌≤◌, ◌<◌, ◌≡◌, Bool, cond, List, eqb, ltb, length, get_or, replicate, Err, Ok}
+use Rattle.std.specs.Prelude.{ℕ, ◌+◌, ◌*◌, ◌≤◌, ◌<◌, ◌≡◌, Bool, true, cond, List, eqb, ltb, length, get_or, replicate, Err, Ok}
 use Rattle.quorums.specs.Sum.{sum, all}
 use Rattle.quorums.specs.Accounts.{Accounts, weight}
 use Rattle.config.specs.Cluster.{start_of, above_of, most_weight}
@@ -7,6 +7,7 @@ use Rattle.config.specs.Refusals.{by-verdict, Signed}
 use Rattle.config.specs.declared.cluster.Config.{Config}
 use Rattle.ledger.specs.declared.ledger.Ledger.{Ledger}
 use Rattle.ledger.specs.Ledgers.{count_of, cell_of, received_of, given_of}
+use Rattle.ledger.specs.Maps.{named}
 use Rattle.ledger.specs.Weights.{margin_of}
 use Rattle.ledger.specs.Checks.{check_answer}
 
@@ -31,6 +32,10 @@ pub record Sums (most : ℕ) (l : List ℕ) : Type 0 where
 pub record Weighs (c : Config) (l : Ledger) (received given : List ℕ) : Type 0 where
   pub takes : (i : ℕ) → i < c.n → get_or received i 0 ≡ received_of l i
   pub gives : (i : ℕ) → i < c.n → get_or given i 0 ≡ given_of l i
+
+-- a list that has f at each of the servers below n that a map names
+pub record Covers (n m : ℕ) (f : ℕ → ℕ) (l : List ℕ) : Type 0 where
+  pub at : (i : ℕ) → i < n → named m i ≡ true → get_or l i 0 ≡ f i
 
 -- ---- the record test in one pass: rows below n have a server each, and beyond them there is nothing
 

@@ -31,7 +31,9 @@ impl Ledger {
         ensures { result ≡ floor_answer config.now self.now }
     {
         let least = config.least()?;
-        if !self.sums().above_floor(config, least) {
+        let mut tally = Tally::none();
+        self.sum_named(config.n, 65535, &mut tally);
+        if !tally.above_floor(config, least) {
             return Err(Refusal::Light);
         }
         Ok(())

@@ -1,25 +1,50 @@
-// What the servers received and gave by the rows of a ledger, and the record test, which finds it in one pass over them.
-ghost use Rattle.std.specs.Prelude.{◌≡◌, true, ◌+◌, ◌*◌, ◌≤◌, length, get_or};
+// What the servers received and gave by the rows and columns of a ledger, and the record test, which finds it in one pass over the rows.
+ghost use Rattle.std.specs.Prelude.{◌≡◌, true, ◌+◌, ◌*◌, ◌≤◌, ◌<◌, length, get_or};
 ghost use Rattle.quorums.specs.Sum.{sum};
 ghost use Rattle.quorums.specs.Tables.{table};
 ghost use Rattle.config.specs.Cluster.{lawful_of, least_of};
 ghost use Rattle.config.specs.Refusals.{granted};
 ghost use Rattle.ledger.specs.Ledgers.{received_of, given_of};
 ghost use Rattle.ledger.specs.Checks.{fit_answer};
-ghost use Rattle.ledger.specs.Sums.{Sums, Weighs, no_sums, under as under_of, received_from, given_below, filled_row, row_faults, beyond_from, faults_of};
+ghost use Rattle.ledger.specs.Sums.{Sums, Weighs, Covers, no_sums, under as under_of, received_from, given_below, filled_row, row_faults, beyond_from, faults_of};
 
 use super::ledger::Ledger;
+use super::map::names;
 use super::tally::Tally;
 use config::{Config, MOST_WEIGHT, Refusal};
 
+// Up to so many servers are summed one by one, which takes less time than a pass over all cells.
+const FEW: u64 = 8;
+
 impl Ledger {
-    // What each server received and gave, by all 16 rows and columns, whatever they hold.
-    pub(crate) fn sums(&self) -> Tally
-        ensures { (result.received ≡ table 16 (received_of self.now)) × (result.given ≡ table 16 (given_of self.now)) }
+    // What the servers below n that a map names received and gave, put into a tally that has nothing: handed back by value, it would be copied. Where they are
+    // few, the column and the row of each are added up, and else all cells in one pass.
+    pub(crate) fn sum_named(&self, n: u64, map: u16, tally: &mut Tally)
+        requires { (n ≤ 16) × (tally.old.given ≡ no_sums) }
+        ensures { Covers n map (received_of self.now) tally.new.received × Covers n map (given_of self.now) tally.new.given }
     {
-        let mut tally = Tally::none();
-        self.add_rows(16, &mut tally);
-        tally
+        if FEW < n && FEW < u64::from(map.count_ones()) {
+            self.add_rows(16, tally);
+            return;
+        }
+        for i in 0..n as usize {
+            if names(map, i) {
+                tally.received[i] = self.column_total(i);
+                tally.given[i] = row_total(self.row(i));
+            }
+        }
+    }
+
+    // What server i received: the total of its column, by 16 cells and not by all.
+    pub(crate) fn column_total(&self, i: usize) -> u64
+        requires { i < 16 }
+        ensures { (result ≡ received_of self.now i) × (result ≤ 68719476720) }
+    {
+        let mut total: u64 = 0;
+        for j in 0..16 {
+            total += u64::from(self.cells[j * 16 + i]);
+        }
+        total
     }
 
     // The record test, for a lawful cluster whose least weight above the floor is `least`: 4 for a count or cell out of range, 5 for a weight not above the
@@ -93,7 +118,7 @@ fn filled(row: &[u32]) -> u64
 }
 
 // The total of a row.
-fn row_total(row: &[u32]) -> u64
+pub(crate) fn row_total(row: &[u32]) -> u64
     requires { length row.now ≡ 16 }
     ensures { (result ≡ sum 16 (λ j. get_or row.now j 0)) × (result ≤ 68719476720) }
 {

@@ -1,7 +1,7 @@
 // What each server received and gave in all: weights need no more of a ledger.
 ghost use Rattle.std.specs.Prelude.{◌≡◌, ◌<◌, ◌≤◌, true};
-ghost use Rattle.quorums.specs.Accounts.{weight as weight_of, weight_in, margin};
-ghost use Rattle.config.specs.Cluster.{valid_of, lawful_of, least_of, server_of};
+ghost use Rattle.quorums.specs.Accounts.{weight_in, margin};
+ghost use Rattle.config.specs.Cluster.{valid_of, lawful_of, least_of};
 ghost use Rattle.ledger.specs.Balances.{Sides};
 ghost use Rattle.ledger.specs.Maps.{named};
 ghost use Rattle.ledger.specs.Sums.{Sums, accounts_in, all_above, no_sums};
@@ -53,15 +53,6 @@ impl Tally {
         true
     }
 
-    // The weight of a server: start + received − given. It is negative where more was given than was there.
-    pub(crate) fn weight(&self, config: &Config, server: u64) -> i64
-        requires { server_of config.now server ≡ true }
-        ensures { result ≡ weight_of (accounts_in config.now self.now.received self.now.given) server }
-    {
-        let i = server as usize;
-        difference(config.start_at(server) + self.received[i], self.given[i])
-    }
-
     // The weight of all servers together.
     pub(crate) fn weight_of_all(&self, config: &Config) -> i64
         requires { valid_of config.now ≡ true }
@@ -101,7 +92,7 @@ impl Tally {
 }
 
 // a less b, as a signed number.
-fn difference(a: u64, b: u64) -> i64
+pub(crate) fn difference(a: u64, b: u64) -> i64
     requires { (a < 4611686018427387904) × (b < 4611686018427387904) }
     ensures { result ≡ difference_of a b }
 {

@@ -5,7 +5,8 @@ ghost use Rattle.ledger.specs.Weights.{given_answer, received_answer, weight_ans
 
 use super::ledger::Ledger;
 use super::map::within;
-use super::tally::Tally;
+use super::sums::row_total;
+use super::tally::{Tally, difference};
 use config::{Config, Refusal};
 
 impl Ledger {
@@ -14,7 +15,7 @@ impl Ledger {
         ensures { result ≡ given_answer config.now self server }
     {
         config.start(server)?;
-        Ok(self.sums().given[server as usize])
+        Ok(row_total(self.row(server as usize)))
     }
 
     // What a server received in all.
@@ -22,15 +23,16 @@ impl Ledger {
         ensures { result ≡ received_answer config.now self server }
     {
         config.start(server)?;
-        Ok(self.sums().received[server as usize])
+        Ok(self.column_total(server as usize))
     }
 
     // The weight of a server: start + received − given. It is negative where a ledger says that more was given than was there.
     pub fn weight(self, config: &Config, server: u64) -> Result<i64, Refusal>
         ensures { result ≡ weight_answer config.now self server }
     {
-        config.start(server)?;
-        Ok(self.sums().weight(config, server))
+        let start = config.start(server)?;
+        let i = server as usize;
+        Ok(difference(start + self.column_total(i), row_total(self.row(i))))
     }
 
     // The weight of all servers together.
@@ -38,7 +40,9 @@ impl Ledger {
         ensures { result ≡ all_answer config.now self }
     {
         config.least()?;
-        Ok(self.sums().weight_of_all(config))
+        let mut tally = Tally::none();
+        self.sum_named(config.n, 65535, &mut tally);
+        Ok(tally.weight_of_all(config))
     }
 
     // Twice the weight of the servers that a map names, less W: above zero they are a quorum, and at zero and below they are not.
@@ -49,7 +53,9 @@ impl Ledger {
             return Err(Refusal::BadHouse);
         }
         config.least()?;
-        Ok(self.sums().margin(config, map))
+        let mut tally = Tally::none();
+        self.sum_named(config.n, map, &mut tally);
+        Ok(tally.margin(config, map))
     }
 
     // The same number for a ledger that may be damaged, wherever it lies: it passes the record test, or the answer is what `check` refuses.

@@ -1,12 +1,9 @@
 -- `received` meets its contract.
-use Rattle.std.specs.Prelude.{Err}
-use native.Mathlib.Omega.{arith}
-use mathlib.Core.Path.{sym}
-use Rattle.quorums.proofs.Tables.{table_at}
+use Rattle.std.specs.Prelude.{Ok, Err}
+use mathlib.Core.Path.{sym, ap}
 use Rattle.std.proofs.lemmas.Result.{err_from_is_err_and}
 use Rattle.config.proofs.Clusters.{server-small}
 use Rattle.ledger.specs.Weights.{received_answer}
-use Rattle.ledger.specs.Ledgers.{received_of}
 use Rattle.ledger.proofs.Judged.{start-judged, start-told}
 use Rattle.ledger.proofs.ledger.Ledger.received.Goals as goal
 
@@ -16,14 +13,11 @@ returns-in_err-start c =
     let p = err_from_is_err_and c.from_residual.result c.from_residual.ensures.1 in
     rw (p.1, p.2) (sym (start-judged _ _ _ Err c.args.server (sym c.in_err-start.ensures)))
 
-pub offset_bounds-sums-server : goal.offset_bounds-sums-server
-offset_bounds-sums-server c = omega (arith, server-small _ _ (start-told _ _ _ (sym c.in_ok-start.ensures)).0)
-
-pub bounds-sums-server : goal.bounds-sums-server
-bounds-sums-server c = server-small _ _ (start-told _ _ _ (sym c.in_ok-start.ensures)).0
+pub column_total-requires : goal.column_total-requires
+column_total-requires c = server-small _ _ (start-told _ _ _ (sym c.in_ok-start.ensures)).0
 
 pub returns : goal.returns
 unfolding received_answer
 returns c =
     let e = start-told _ _ _ (sym c.in_ok-start.ensures) in
-    simp (e.0, e.1, c.sums.ensures.0, table_at 16 (received_of c.args.self) c.args.server (server-small _ _ e.0))
+    simp (e.0, e.1) (ap Ok c.column_total.ensures.0)
