@@ -16,12 +16,12 @@ use Rattle.config.proofs.Clusters.{lawful-valid}
 use Rattle.config.specs.Refusals.{refusal, granted}
 use Rattle.config.specs.declared.answer.Refusal.{Refusal}
 use Rattle.config.specs.declared.cluster.Config.{Config}
-use Rattle.ledger.specs.Ledgers.{fresh_ledger}
+use Rattle.ledger.specs.Ledgers.{fresh_ledger, Typed, received_of, given_of}
 use Rattle.ledger.specs.Maps.{named, map_of}
-use Rattle.ledger.specs.Sums.{accounts_in}
+use Rattle.ledger.specs.Sums.{accounts_in, Sums}
 use Rattle.ledger.specs.Weights.{weight_answer, quorum_answer}
 use Rattle.ledger.specs.declared.ledger.Ledger.{Ledger}
-use Rattle.ledger.proofs.Weights.{sums-weight, sums-margin}
+use Rattle.ledger.proofs.Weights.{sums-weight, sums-margin, received-sums, given-sums}
 use Rattle.replica.specs.declared.register.Register.{Register}
 use Rattle.message.specs.Answers.{Received, check, verdict_of, check_answer, receive_of, message_answer, taken_answer, taken_ledger, fields_in, fields_answer, value_answer}
 use Rattle.message.specs.Scans.{sheet_of, ledger_read, scan_of}
@@ -29,6 +29,7 @@ use Rattle.message.specs.declared.answer.Message.{Message}
 use Rattle.message.specs.declared.answer.Taken.{Taken}
 use Rattle.message.specs.declared.envelope.Envelope.{Envelope}
 use Rattle.message.proofs.Rounds.{check-told, received}
+use Rattle.message.proofs.SheetBacks.{ledger-typed}
 use Rattle.message.proofs.TakenLemmas.{message-received, message-refused as received-refused, taken-refused, taken-received}
 use Rattle.reader.specs.Keeping.{KeptIn}
 use Rattle.reader.specs.Registers.{Shown, register_at, kept_at}
@@ -38,6 +39,18 @@ use Rattle.reader.specs.Weighings.{weight_in, quorum_in}
 use Rattle.reader.specs.Wholes.{ShownFound, found_answer, counts_taken, cells_taken}
 use Rattle.reader.specs.declared.tally.Tally.{Tally}
 use Rattle.reader.proofs.Outcomes.{outcome-ok, outcome-err}
+
+-- ---- the sums of a message's sheet are small, also where the message is refused
+
+ledger-small : (c : Config) (msg : List ℕ) → Typed (scan_of c msg).ledger
+unfolding scan_of
+ledger-small c msg = ledger-typed c msg _ _
+
+pub received-small : (c : Config) (msg : List ℕ) {xs : List ℕ} → xs ≡ table 16 (received_of (scan_of c msg).ledger) → Sums 68719476720 xs
+received-small c msg e = rw e (received-sums _ (ledger-small c msg))
+
+pub given-small : (c : Config) (msg : List ℕ) {xs : List ℕ} → xs ≡ table 16 (given_of (scan_of c msg).ledger) → Sums 68719476720 xs
+given-small c msg e = rw e (given-sums _ (ledger-small c msg))
 
 -- ---- the message is refused
 

@@ -15,6 +15,11 @@ use Rattle.message.proofs.Stuck.{Stuck, read_number-stuck, require-stuck}
 use Rattle.reader.specs.Steps.{outcome, at_place, read_answer, place_answer, on_ok}
 use Rattle.reader.specs.declared.step.Read.{Read}
 
+-- A test keeps a number that is there already.
+pub require-stays : (ok : Bool) (k : ℕ) (c : Cursor) → (c.number ≡ 0 → ⊥) → require ok k c ≡ c
+unfolding require
+require-stays ok k c h = simp (ne_eqb _ _ h)
+
 -- The cursor has a number, which is that of a refusal.
 pub record Refused (c : Cursor) (r : Refusal) : Type 0 where
   pub some : c.number ≡ 0 → ⊥

@@ -53,7 +53,7 @@ stayed f j h (suc d) =
     rw e (h (suc (j + d)) (omega arith) ∙ ap (λ (c : Cursor). stay c.number c) (stayed f j h d))
 
 -- the cursor after 16 steps, of which the last 16 - j read nothing
-settled : ℕ → Cursor → Cursor
+unfoldable pub settled : ℕ → Cursor → Cursor
 settled j c = cond (ltb j 16) (stay c.number c) c
 
 settles : (f : ℕ → Cursor) (j : ℕ) → j ≤ 16 → ((k : ℕ) → j ≤ k → f (suc k) ≡ stay (f k).number (f k)) → settled j (f j) ≡ f 16
@@ -95,8 +95,11 @@ cell-unset : (msg : List ℕ) (m : ℕ) (from : Cursor) (k : ℕ) → bit m k �
 unfolding cells_after
 cell-unset msg m from k e = rw e (number-absent msg _ _ _ (cells_after msg m from k))
 
+pub cells-settled : (msg : List ℕ) (m : ℕ) (from : Cursor) (j : ℕ) → j ≤ 16 → m / 2 ^ j ≡ 0 → settled j (cells_after msg m from j) ≡ cells_after msg m from 16
+cells-settled msg m from j l e = settles (cells_after msg m from) j l (λ k g. cell-unset msg m from k (rest-done m j k e g))
+
 pub cells-settle : (msg : List ℕ) (m : ℕ) (from : Cursor) (j : ℕ) → j ≤ 16 → m / 2 ^ j ≡ 0 → Settles (cells_after msg m from j) (cells_after msg m from 16)
-cells-settle msg m from j l e = settled-same _ _ _ (settles (cells_after msg m from) j l (λ k g. cell-unset msg m from k (rest-done m j k e g)))
+cells-settle msg m from j l e = settled-same _ _ _ (cells-settled msg m from j l e)
 
 pub cell-beyond : (msg : List ℕ) (m : ℕ) (from : Cursor) (j k : ℕ) → m / 2 ^ j ≡ 0 → j ≤ k → cell_read msg m from k ≡ 0
 unfolding cell_read
@@ -108,12 +111,15 @@ cell_stays : (msg : List ℕ) (m : ℕ) (from : Cursor) (k : ℕ) → ((cells_af
 unfolding cells_after
 cell_stays msg m from k n = number-stays msg _ _ _ _ (cells_after msg m from k) n
 
+pub cells-fault-settled : (msg : List ℕ) (m : ℕ) (from : Cursor) (j : ℕ) → j < 16 → ((cells_after msg m from (j + 1)).number ≡ 0 → ⊥)
+    → settled (j + 1) (cells_after msg m from (j + 1)) ≡ cells_after msg m from 16
+cells-fault-settled msg m from j l n =
+    settles (cells_after msg m from) (j + 1) (omega arith)
+    (λ k g. cell_stays msg m from k (kept (cells_after msg m from) (j + 1) (cell_stays msg m from) n k g))
+
 pub cells-fault : (msg : List ℕ) (m : ℕ) (from : Cursor) (j : ℕ) → j < 16 → ((cells_after msg m from (j + 1)).number ≡ 0 → ⊥)
     → Settles (cells_after msg m from (j + 1)) (cells_after msg m from 16)
-cells-fault msg m from j l n =
-    settled-same _ _ _
-    (settles (cells_after msg m from) (j + 1) (omega arith)
-    (λ k g. cell_stays msg m from k (kept (cells_after msg m from) (j + 1) (cell_stays msg m from) n k g)))
+cells-fault msg m from j l n = settled-same _ _ _ (cells-fault-settled msg m from j l n)
 
 cell-clean : (msg : List ℕ) (m : ℕ) (from : Cursor) (j : ℕ) → ((cells_after msg m from (suc j)).number ≡ 0 → ⊥) → cell_read msg m from j ≡ 0
 unfolding cells_after cell_read
@@ -142,8 +148,12 @@ pub row-cells-unset : (c : Config) (msg : List ℕ) (m : ℕ) (from : Cursor) (k
 unfolding cell_of_row
 row-cells-unset c msg m from k e j = ap (λ s. row_cells c msg k s (rows_after c msg m from k) j) e ∙ row-cell-absent c msg k (rows_after c msg m from k) j
 
+pub rows-settled : (c : Config) (msg : List ℕ) (m : ℕ) (from : Cursor) (i : ℕ) → i ≤ 16 → m / 2 ^ i ≡ 0
+    → settled i (rows_after c msg m from i) ≡ rows_after c msg m from 16
+rows-settled c msg m from i l e = settles (rows_after c msg m from) i l (λ k g. row-unset c msg m from k (rest-done m i k e g))
+
 pub rows-settle : (c : Config) (msg : List ℕ) (m : ℕ) (from : Cursor) (i : ℕ) → i ≤ 16 → m / 2 ^ i ≡ 0 → Settles (rows_after c msg m from i) (rows_after c msg m from 16)
-rows-settle c msg m from i l e = settled-same _ _ _ (settles (rows_after c msg m from) i l (λ k g. row-unset c msg m from k (rest-done m i k e g)))
+rows-settle c msg m from i l e = settled-same _ _ _ (rows-settled c msg m from i l e)
 
 -- no row from i on has a count or a cell
 abbrev pub NoRows : Config → List ℕ → ℕ → Cursor → ℕ → Type 0
@@ -163,8 +173,11 @@ module _ (c : Config) (msg : List ℕ) (m : ℕ) (from : Cursor) (i : ℕ) (faul
   faulty : (k : ℕ) → i ≤ k → (rows_after c msg m from k).number ≡ 0 → ⊥
   faulty = kept (rows_after c msg m from) i (row_stays c msg m from) fault
 
+  pub rows-fault-settled : i ≤ 16 → settled i (rows_after c msg m from i) ≡ rows_after c msg m from 16
+  rows-fault-settled l = settles (rows_after c msg m from) i l (λ k g. row_stays c msg m from k (faulty k g))
+
   pub rows-fault : i ≤ 16 → Settles (rows_after c msg m from i) (rows_after c msg m from 16)
-  rows-fault l = settled-same _ _ _ (settles (rows_after c msg m from) i l (λ k g. row_stays c msg m from k (faulty k g)))
+  rows-fault l = settled-same _ _ _ (rows-fault-settled l)
 
   pub rows-after-fault : NoRows c msg m from i
   unfolding count_read cell_of_row

@@ -143,6 +143,12 @@ same-past : (k n x y : ℕ) → n ≤ k → same_byte k n x y ≡ true
 unfolding same_byte
 same-past k n x y h = rw (le-ltb k n h)
 
+-- where all bytes of the first are the same, there are no others to compare
+pub same_rest : (a b : Value) (k : ℕ) → min a.length 64 ≤ k → all k (same_at a b) ≡ true → all 64 (same_at a b) ≡ true
+same_rest a b k h e =
+    each_all 64 (same_at a b) (λ m l.
+    ⊎_elim (λ (p : k ≤ m). same-past m a.length _ _ (omega arith)) (λ (p : m < k). all-each k (same_at a b) e m p) (le-or-lt k m))
+
 -- the bytes of two values of one length, taken from their arrays, are equal exactly where the values are the same at each byte
 pub same_slices : (a b : Value) → length a.bytes ≡ 64 → length b.bytes ≡ 64 → a.length ≡ b.length
     → pointwise eqb (take (min a.length 64) a.bytes) (take (min b.length 64) b.bytes) ≡ all 64 (same_at a b)
