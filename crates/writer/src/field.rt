@@ -41,7 +41,9 @@ impl Pen<'_> {
         self.number(stands, config.stamp_bytes() as usize, stamp);
         self.number(stands, 2, desk);
         self.number(stands, 1, length);
-        self.put(register.value.bytes());
+        // Put from a copy, which nothing else can reach, it is a plain copy: bytes behind a reference might lie in the buffer for all that a compiler knows.
+        let value = register.value;
+        self.put(value.bytes());
     }
 
     // A row, whose cells are all 0 where its count is; they are then not looked at. The cell map is put when the cells are.
