@@ -35,7 +35,7 @@ use Rattle.server.specs.declared.serve.Serving.{Serving}
 use Rattle.server.specs.declared.serve.Considered.{Considered}
 use Rattle.server.specs.Servers.{fits, holding}
 use Rattle.server.specs.Serves.{Outcome, refuse, stray, knows_more, clashes, reply_by, reply_of, serve_fields, serve_of}
-use Rattle.server.specs.Servings.{serving_of, considered_of, answer_in, unwritten, light_of, lightened, settled, known_in, more_in}
+use Rattle.server.specs.Servings.{by_answer, serving_of, considered_of, answer_in, unwritten, light_of, lightened, settled, known_in, more_in}
 use Rattle.server.proofs.Considered.{brings, tested, with-refused, with-told}
 use Rattle.server.proofs.Servers.{fits-replica}
 use Rattle.server.proofs.Serves.{reply-lawful}
@@ -93,6 +93,78 @@ share-taken : (s : Server) (p : Replica) (out : List ℕ) (at : ℕ)
 unfolding settled
 share-taken s p out at = refl
 
+-- what serve comes to by what is answered
+
+settled-done : (s : Server) (p : Replica) (w : Written) (k : ℕ) → w.answer ≡ Ok k
+    → settled s p w ≡ record { answer = Ok k; server = holding s p; out = w.out }
+unfolding settled
+settled-done s p w k d = rw d refl
+
+settled-left : (s : Server) (p : Replica) (w : Written) (k : Refusal) → w.answer ≡ Err k → settled s p w ≡ refuse k s w.out
+unfolding settled
+settled-left s p w k d = rw d refl
+
+light-done : (w : Written) (k : ℕ) → w.answer ≡ Ok k → lightened w ≡ w
+light-done w k d = rw d refl
+
+light-refused : (w : Written) (k : Refusal) → w.answer ≡ Err k → lightened w ≡ unwritten (light_of k) w.out
+light-refused w k d = rw d refl
+
+-- a message that brings no transfer, where h is held afterwards
+module _ (s : Server) (e : Envelope) (h : Register) (out : List ℕ) (at : ℕ) where
+  abbrev keeps : Replica
+  keeps = record { ledger = s.replica.ledger; register = h }
+
+  pub known-unfit : register_fits s.config s.replica.register ≡ false → known_in s e h out at ≡ refuse (refusal 1) s out
+  unfolding known_in
+  known-unfit f = rw f (refused-left s keeps (refusal 1) out)
+
+  module _ (f : register_fits s.config s.replica.register ≡ true) where
+    pub known-done : (k : ℕ) → (answer_in s.config s.number e keeps out at).answer ≡ Ok k
+        → known_in s e h out at ≡ record { answer = Ok k; server = holding s keeps; out = (answer_in s.config s.number e keeps out at).out }
+    unfolding known_in
+    known-done k d = rw f (settled-done s keeps _ k d)
+
+    pub known-left : (k : Refusal) → (answer_in s.config s.number e keeps out at).answer ≡ Err k
+        → known_in s e h out at ≡ refuse k s (answer_in s.config s.number e keeps out at).out
+    unfolding known_in
+    known-left k d = rw f (settled-left s keeps _ k d)
+
+  -- the ledger stays
+  pub known-ledger : (known_in s e h out at).server.replica.ledger ≡ s.replica.ledger
+  unfolding known_in settled
+  known-ledger = by-answer (cond (register_fits s.config s.replica.register) (answer_in s.config s.number e keeps out at) (unwritten (refusal 1) out))
+    where
+      outcome : Written → Result ℕ Refusal → Outcome
+      outcome w n = by_answer n (λ x. record { answer = Ok x; server = holding s keeps; out = w.out }) (λ k. refuse k s w.out)
+
+      by-answer-of : (w : Written) (n : Result ℕ Refusal) → (outcome w n).server.replica.ledger ≡ s.replica.ledger
+      by-answer-of w (Ok x) = refl
+      by-answer-of w (Err k) = refl
+
+      by-answer : (w : Written) → (outcome w w.answer).server.replica.ledger ≡ s.replica.ledger
+      by-answer w = by-answer-of w w.answer
+
+-- a message that brings transfers
+module _ (s : Server) (e : Envelope) (r : Replica) (out : List ℕ) (at : ℕ) where
+  abbrev pub gained : Replica
+  gained = record { ledger = joined r.ledger s.replica.ledger; register = r.register }
+
+  pub more-unfit : fits_replica s.config s.replica ≡ false → more_in s e r out at ≡ refuse (refusal 1) s out
+  unfolding more_in
+  more-unfit f = rw f (refused-left s gained (refusal 1) out)
+
+  module _ (f : fits_replica s.config s.replica ≡ true) where
+    pub more-done : (k : ℕ) → (answer_in s.config s.number e gained out at).answer ≡ Ok k
+        → more_in s e r out at ≡ record { answer = Ok k; server = holding s gained; out = (answer_in s.config s.number e gained out at).out }
+    unfolding more_in
+    more-done k d = rw f (ap (settled s gained) (light-done _ k d) ∙ settled-done s gained _ k d)
+
+    pub more_left : (k : Refusal) → (answer_in s.config s.number e gained out at).answer ≡ Err k
+        → more_in s e r out at ≡ refuse (light_of k) s (answer_in s.config s.number e gained out at).out
+    unfolding more_in
+    more_left k d = rw f (ap (settled s gained) (light-refused _ k d) ∙ refused-left s gained (light_of k) _)
+
 -- ---- what becomes of a message
 
 -- what is known of a message that is not refused, and whether it brings a transfer
@@ -114,7 +186,7 @@ same_more true false d = cc
 same_more false true d = cc
 same_more false false d = refl
 
-serves-told : (s : Server) (v : Verdict) (e : Envelope) (r : Replica) (more : Bool) → serving_of s v e r ≡ brings more → Serves s v e r more
+pub serves-told : (s : Server) (v : Verdict) (e : Envelope) (r : Replica) (more : Bool) → serving_of s v e r ≡ brings more → Serves s v e r more
 unfolding serving_of
 serves-told s v e r more = by-verdicts v refl
   where
@@ -145,7 +217,7 @@ module _ (s : Server) (own : server_of s.config s.number ≡ true) (v : Verdict)
   record-test b f = fits-replica s own ∙ f
 
   -- a refusal, which comes after 1
-  serving-refused : (k : Refusal) → serving_of s v e r ≡ Err k
+  pub serving-refused : (k : Refusal) → serving_of s v e r ≡ Err k
       → serve_read s v e r out at ≡ refuse (cond (fits_replica s.config s.replica) k (refusal 1)) s out
   unfolding serving_of
   serving-refused k d = by-fit (fits_replica s.config s.replica) refl
@@ -220,7 +292,7 @@ module _ (s : Server) (own : server_of s.config s.number ≡ true) (v : Verdict)
         )
 
   -- a message that brings no transfer
-  serving-known : Shaped s.replica.ledger → Serves s v e r false
+  pub serving-known : Shaped s.replica.ledger → Serves s v e r false
       → serve_read s v e r out at ≡ known_in s e (higher s.replica.register r.register) out at
   unfolding known_in
   serving-known l z = by-fit (fits_replica s.config s.replica) (register_fits s.config g) refl refl
@@ -244,7 +316,7 @@ module _ (s : Server) (own : server_of s.config s.number ≡ true) (v : Verdict)
       by-fit false false f h = rw (record-test false f) (sym (refused-left s p (refusal 1) out))
 
   -- a message that brings transfers
-  serving-more : Serves s v e r true
+  pub serving-more : Serves s v e r true
       → serve_read s v e r out at ≡ more_in s e (record { ledger = r.ledger; register = higher s.replica.register r.register }) out at
   unfolding more_in join
   serving-more z = by-fit (fits_replica s.config s.replica) refl

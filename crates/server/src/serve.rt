@@ -113,16 +113,16 @@ impl Server {
         requires { self.old.number < 16 }
         ensures { (result ≡ (known_in self.old envelope.now after out.old at).answer) × (self.new ≡ (known_in self.old envelope.now after out.old at).server) × (out.new ≡ (known_in self.old envelope.now after out.old at).out) }
     {
-        let held = self.replica.register;
-        if !held.fits(&self.config) {
+        if !self.replica.register.fits(&self.config) {
             return Err(Refusal::BadHouse);
         }
+        let replica = Replica {
+            ledger: self.replica.ledger,
+            register: after,
+        };
+        let end = self.answered(envelope, &replica, out, at)?;
         self.replica.register = after;
-        let answer = self.answered(envelope, &self.replica, out, at);
-        if answer.is_err() {
-            self.replica.register = held;
-        }
-        answer
+        Ok(end)
     }
 
     // A message that brings transfers: both ledgers together, made where the message's lies, take the place of the server's once nothing can refuse them.
