@@ -10,11 +10,12 @@ use Rattle.message.proofs.Lawful.{lawful-told}
 use mathlib.Core.Path.{◌≡◌, refl, sym, ap, ◌∙◌}
 use mathlib.Core.Bool.{Bool, true, false, cond}
 use mathlib.Core.List.{List}
+use lib.Dec.{eqb, ltb}
 use lib.ListN.{length}
-use Rattle.config.specs.Refusals.{refusal}
+use Rattle.config.specs.Refusals.{Verdict, by-verdict, refusal, granted}
 use Rattle.config.specs.declared.answer.Refusal.{Refusal}
 use Rattle.ledger.specs.Joins.{lacks}
-use Rattle.ledger.specs.Weights.{margin_of}
+use Rattle.ledger.specs.Weights.{margin_of, quorum_of}
 use Rattle.ledger.specs.declared.ledger.Ledger.{Ledger}
 use Rattle.ledger.specs.declared.join.Compared.{Compared}
 use Rattle.ledger.proofs.Answers.{quorum-margin}
@@ -36,10 +37,11 @@ use Rattle.desk.specs.declared.record.Desk.{Desk}
 use Rattle.desk.specs.declared.record.Heard.{Heard}
 use Rattle.desk.specs.declared.hear.Listening.{Listening}
 use Rattle.desk.specs.declared.hear.Listening.TheVariants.{Late, Larger, Equal}
-use Rattle.desk.specs.Desks.{fits}
-use Rattle.desk.specs.Hears.{late, refused, stray, timely, clashes, restart_of, marked, mark_of, hear_fields, hear_of}
+use Rattle.desk.specs.Desks.{most_round, fits}
+use Rattle.desk.specs.Hears.{accepted, late, refused, stray, timely, clashes, restarted, restart_of, marked, no_stamp, chose, choose_of, finished, mark_of, hear_fields, hear_of}
 use Rattle.desk.specs.Hearings.{outcome, listening_of, pair, mark_in}
 use Rattle.desk.proofs.Desks.{fits_told}
+use Rattle.desk.proofs.Heeded.{waiting}
 use Rattle.desk.proofs.ToldLemmas.{clash-lacking, clash-rest, fields-stray, fields-late, fields-clash, fields-larger, fields-equal, hear-taken, hear-untaken}
 
 -- a server marked on the desk's own ledger, by the margin of all that have answered
@@ -48,6 +50,114 @@ pub mark-margin : (x : Desk) (g : Register) (i : ℕ) →
     mark_of x (pair x.replica.ledger g) i ≡ mark_in x g m (margin_of x.config x.replica.ledger m)
 unfolding mark_of mark_in
 mark-margin x g i = rw quorum-margin refl
+
+-- ---- the ledger that is held once a reply is taken
+
+module _ (x : Desk) (p : Replica) where
+  -- the joined one, but in the last round
+  pub restart-ledger : (restart_of x p).desk.replica.ledger ≡ cond (ltb x.round most_round) p.ledger x.replica.ledger
+  unfolding restart_of
+  restart-ledger = by-test (ltb x.round most_round)
+    where
+      by-test : (b : Bool) → (cond b (accepted (restarted x p)) (refused (refusal 12) x)).desk.replica.ledger ≡ cond b p.ledger x.replica.ledger
+      by-test true = refl
+      by-test false = refl
+
+  -- what the end of phase 1 comes to: b, whether a round is left, and s, whether no stamp is
+  abbrev chosen : (b s : Bool) → Heard
+  chosen b s = cond b (cond s (refused (refusal 12) x) (accepted (chose x p))) (refused (refusal 12) x)
+
+  -- where the two are equal it stays the desk's own
+  choose-ledger : p.ledger ≡ x.replica.ledger → (choose_of x p).desk.replica.ledger ≡ x.replica.ledger
+  unfolding choose_of
+  choose-ledger e = by_tests (ltb x.round most_round) (no_stamp x p.register)
+    where
+      by_tests : (b s : Bool) → (chosen b s).desk.replica.ledger ≡ x.replica.ledger
+      by_tests true true = refl
+      by_tests true false = e
+      by_tests false s = refl
+
+  module _ (i : ℕ) where
+    abbrev m : ℕ
+    m = marked x.operation.answered i
+
+    -- and what a server marked comes to: q, whether there is a quorum, and f, whether phase 1 ends with it
+    abbrev answered : (q f : Bool) → Heard
+    answered q f = cond q (cond f (choose_of x p) (accepted (finished x p))) (accepted (waiting x p i))
+
+    pub mark-ledger : p.ledger ≡ x.replica.ledger → (mark_of x p i).desk.replica.ledger ≡ x.replica.ledger
+    unfolding mark_of
+    mark-ledger e = by_tests (quorum_of x.config p.ledger m) (eqb x.operation.phase 1)
+      where
+        by_tests : (q f : Bool) → (answered q f).desk.replica.ledger ≡ x.replica.ledger
+        by_tests true true = choose-ledger e
+        by_tests true false = e
+        by_tests false f = e
+
+-- ---- what becomes of a message
+
+-- what is known of a reply that is taken, and whether it has a transfer that the desk lacks
+pub record Listens (x : Desk) (v : Verdict) (e : Envelope) (r : Replica) (more : Bool) : Type 0 where
+  pub taken : v ≡ granted
+  pub mine : stray x e ≡ false
+  pub current : timely x e ≡ true
+  pub compared : Compared
+  pub joining : compared_of x.config.n x.replica r ≡ Ok compared
+  pub whole : compared.ahead ≡ false
+  pub lacking : compared.lacks ≡ more
+
+-- what a reply that is taken is told as
+abbrev brings : Bool → Result Listening Refusal
+brings more = cond more (Ok Larger) (Ok Equal)
+
+-- all tests of a message that the reader takes
+abbrev tested : Bool → Bool → Result Compared Refusal → Result Listening Refusal
+tested s t z = cond s (Err (refusal 7)) (cond t (outcome z) (Ok Late))
+
+not-refused : (more : Bool) (k : Refusal) → Err k ≡ brings more → ⊥
+not-refused true k d = cc
+not-refused false k d = cc
+
+not_late : (more : Bool) → Ok Late ≡ brings more → ⊥
+not_late true d = cc
+not_late false d = cc
+
+same_more : (l more : Bool) → brings l ≡ brings more → l ≡ more
+same_more true true d = refl
+same_more true false d = cc
+same_more false true d = cc
+same_more false false d = refl
+
+module _ (x : Desk) (e : Envelope) (r : Replica) where
+  -- the comparison decides of a reply of the operation's round
+  pub compared-decides : stray x e ≡ false → timely x e ≡ true → listening_of x e r ≡ outcome (compared_of x.config.n x.replica r)
+  unfolding listening_of
+  compared-decides s t = rw (s, t) refl
+
+  -- v is the reader's verdict, which comes before what becomes of a message
+  pub listens-told : (v : Verdict) (more : Bool) → by-verdict v (listening_of x e r) Err ≡ brings more → Listens x v e r more
+  unfolding listening_of
+  listens-told v more = by-verdicts v refl
+    where
+      y : Result Compared Refusal
+      y = compared_of x.config.n x.replica r
+
+      by_parts : v ≡ granted → stray x e ≡ false → timely x e ≡ true → (z : Compared) → y ≡ Ok z → (a : Bool) → z.ahead ≡ a
+          → cond a (Err (refusal 6)) (brings z.lacks) ≡ brings more → Listens x v e r more
+      by_parts w p q z o true g d = absurd (not-refused more _ d)
+      by_parts w p q z o false g d =
+          record { taken = w; mine = p; current = q; compared = z; joining = o; whole = g; lacking = same_more z.lacks more d }
+
+      by_tests : v ≡ granted → (s t : Bool) (z : Result Compared Refusal) → stray x e ≡ s → timely x e ≡ t → y ≡ z
+          → tested s t z ≡ brings more → Listens x v e r more
+      by_tests w true t z p q o d = absurd (not-refused more _ d)
+      by_tests w false true (Ok z) p q o d = by_parts w p q z o z.ahead refl d
+      by_tests w false true (Err k) p q o d = absurd (not-refused more k d)
+      by_tests w false false z p q o d = absurd (not_late more d)
+
+      by-verdicts : (w : Verdict) → v ≡ w → by-verdict w (tested (stray x e) (timely x e) y) Err ≡ brings more → Listens x v e r more
+      by-verdicts (Ok _) w d = by_tests w (stray x e) (timely x e) y refl refl refl d
+      by-verdicts (Err k) w d = absurd (not-refused more k d)
 
 -- ---- a reply that was read
 

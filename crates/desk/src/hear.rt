@@ -31,18 +31,22 @@ impl Desk {
         Heard { hearing, desk }
     }
 
-    // The same on a record that is lent, which is left as it was where the reply is late or refused. The record test is made once it is known which servers
-    // will have answered, and finds their margin; its refusal is told before the message's.
+    // The same on a record that is lent, which is left as it was where the reply is late or refused. What of the record test is not about the replica comes
+    // first, so that no message is read for a record that fails it; the rest is made once it is known which servers will have answered, and finds their
+    // margin. The refusal of either is told before the message's.
     pub fn listen(&mut self, msg: &[u8]) -> Result<Hearing, Refusal>
         ensures { (result ≡ (hear_of self.old msg.now).hearing) × (self.new ≡ (hear_of self.old msg.now).desk) }
     {
+        if !self.sound() {
+            return Err(Refusal::BadHouse);
+        }
         let mut told = Replica::fresh();
         let taken = receive_into(&self.config, msg, &mut told.ledger);
         let map = match &taken {
             Ok(taken) => marked(self.operation.answered, taken.envelope.server),
             Err(_) => self.operation.answered,
         };
-        let margin = self.weighed(map)?;
+        let margin = self.weighed_sound(map)?;
         let taken = taken?;
         told.register = taken.register;
         let joined = self.replica.register.higher(told.register);

@@ -1,5 +1,6 @@
 // A desk tells how far its operation is from a quorum (paper 02, N1).
-ghost use Rattle.std.specs.Prelude.{◌≡◌};
+ghost use Rattle.std.specs.Prelude.{◌≡◌, true};
+ghost use Rattle.desk.specs.Desks.{sound};
 ghost use Rattle.desk.specs.Margins.{margin_of, weighed_of};
 
 use super::operation::RUNNING;
@@ -20,11 +21,22 @@ impl Desk {
     }
 
     // The margin of a map of servers on the desk's own sheet: 1 for the record, whose test finds it and has that of the ledger in it.
-    #[tactic(auto, unfolding(crate::specs::Margins::weighed_of))]
     pub(crate) fn weighed(&self, map: u16) -> Result<i64, Refusal>
         ensures { result ≡ weighed_of self.now map }
     {
-        if !self.sound() || !self.replica.register.fits(&self.config) {
+        if !self.sound() {
+            return Err(Refusal::BadHouse);
+        }
+        self.weighed_sound(map)
+    }
+
+    // The same of a record that has passed what of the test is not about the replica.
+    #[tactic(auto, unfolding(crate::specs::Margins::weighed_of))]
+    pub(crate) fn weighed_sound(&self, map: u16) -> Result<i64, Refusal>
+        requires { sound self.now ≡ true }
+        ensures { result ≡ weighed_of self.now map }
+    {
+        if !self.replica.register.fits(&self.config) {
             return Err(Refusal::BadHouse);
         }
         self.replica

@@ -46,12 +46,17 @@ impl Desk {
         ensures { result ≡ open_of (house_of n f starts.now) number }
     {
         let config = Config::given(n, f, starts);
-        let verdict = opens(&config, number);
-        let desk = match verdict {
-            Ok(()) => Desk::fresh(config, number),
-            Err(_) => Desk::fresh(Config::none(), 0),
-        };
-        DeskAnswer { verdict, desk }
+        // Each way out makes its answer: a record that was made before it would be copied into it.
+        if let Err(refusal) = opens(&config, number) {
+            return DeskAnswer {
+                verdict: Err(refusal),
+                desk: Desk::fresh(Config::none(), 0),
+            };
+        }
+        DeskAnswer {
+            verdict: Ok(()),
+            desk: Desk::fresh(config, number),
+        }
     }
 
     // The record test: whether every field is within the paper's bounds and the ledger is not light.
