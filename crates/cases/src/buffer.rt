@@ -1,4 +1,5 @@
 // Buffers that are lent to a call: filled with a mark, so that a byte changed outside the message shows.
+ghost use Rattle.std.specs.Prelude.{◌≤◌};
 
 use super::print::{Answer, Hex};
 use config::Refusal;
@@ -41,6 +42,13 @@ impl Buffer {
     }
 }
 
+// The length of the buffer that is lent: the one that the line gives, since a line that gives more is past the program's bounds.
+fn lent(len: u64) -> usize
+    ensures { result ≤ 2048 }
+{
+    len.min(MOST_BYTES as u64) as usize
+}
+
 // Makes a call that is lent a buffer, of a length and from a place on, and answers it.
 pub(crate) fn answer_written<F: FnOnce(&mut [u8], usize) -> Result<u64, Refusal>>(
     out: &impl Print,
@@ -51,7 +59,7 @@ pub(crate) fn answer_written<F: FnOnce(&mut [u8], usize) -> Result<u64, Refusal>
     requires { F.IsAlwaysCallable call }
 {
     let mut buffer = Buffer::fresh();
-    let answer = call(buffer.lend(len as usize), at as usize);
+    let answer = call(buffer.lend(lent(len)), at as usize);
     out.print(Written {
         answer,
         at,

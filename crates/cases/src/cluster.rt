@@ -38,32 +38,24 @@ impl Cluster {
         let mut bytes = [0; SPACE];
         match understand(line, &mut bytes) {
             Ok(None) => return Ok(()),
-            Ok(Some(read)) => {
-                let longer = &bytes[..=read.count];
-                self.obey(out, read.command, &bytes[..read.count], longer)?
-            }
+            Ok(Some(read)) => self.obey(out, read.command, &bytes[..=read.count])?,
             Err(Fault::Beyond) => out.print("bounds")?,
             Err(Fault::Unreadable) => out.print("what")?,
         }
         out.print("\n")
     }
 
-    // `longer` is the line's bytes with a zero byte more.
-    fn obey(
-        &mut self,
-        out: &impl Print,
-        command: Command,
-        bytes: &[u8],
-        longer: &[u8],
-    ) -> io::Result<()>
-        requires { length bytes.now ≤ 2048 }
+    // The line's bytes are `longer` less its last one.
+    fn obey(&mut self, out: &impl Print, command: Command, longer: &[u8]) -> io::Result<()>
+        requires { (1 ≤ length longer.now) × (length longer.now ≤ 2049) }
     {
+        let bytes = &longer[..longer.len() - 1];
         match command {
             Command::House(given) => self.open(out, given),
             Command::Desk(number, call) => self.on_desk(out, number, call, bytes),
             Command::Server(number, call) => self.on_server(out, number, call, bytes),
             Command::Query(query) => ask_about(out, &config_of(&self.house), query, bytes),
-            Command::Message(given) => answer_message(out, &config_of(&given), bytes, longer),
+            Command::Message(given) => answer_message(out, &config_of(&given), longer),
         }
     }
 

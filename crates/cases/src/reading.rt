@@ -16,14 +16,10 @@ fn number_of(verdict: Result<(), Refusal>) -> u64 {
 }
 
 // The answer to a message; `longer` is the message with a zero byte more.
-pub(crate) fn answer_message(
-    out: &impl Print,
-    config: &Config,
-    msg: &[u8],
-    longer: &[u8],
-) -> io::Result<()>
-    requires { length msg.now ≤ 2048 }
+pub(crate) fn answer_message(out: &impl Print, config: &Config, longer: &[u8]) -> io::Result<()>
+    requires { (1 ≤ length longer.now) × (length longer.now ≤ 2049) }
 {
+    let msg = &longer[..longer.len() - 1];
     let found = check(config, msg);
     let part = value(config, msg);
     match (found, fields(config, msg)) {

@@ -55,7 +55,9 @@ fn byte(pair: &[u8]) -> Option<u8> {
 }
 
 // The bytes that words stand for, `-` for none, into the front of `out`, and how many it took; those that find no room are read and left out.
-pub(crate) fn decode(words: Words, out: &mut [u8]) -> Option<usize> {
+pub(crate) fn decode(words: Words, out: &mut [u8]) -> Option<usize>
+    ensures { length out.new ≡ length out.old }
+{
     let mut rest = words;
     if let (Some(b"-"), None) = (rest.next(), rest.next()) {
         return Some(0);
