@@ -41,7 +41,7 @@ impl Pen<'_> {
         self.number(stands, config.stamp_bytes() as usize, stamp);
         self.number(stands, 2, desk);
         self.number(stands, 1, length);
-        // Put from a copy, which nothing else can reach, it is a plain copy: bytes behind a reference might lie in the buffer for all that a compiler knows.
+        // A copy of the value is put, which cannot lie in the buffer: what lies behind a reference might, for all that a compiler knows, and it would call `memmove`.
         let value = register.value;
         self.put(value.bytes());
     }
